@@ -1,0 +1,3 @@
+pub mod FindingNames
+pub mod Numbers
+pub mod RuleNames
