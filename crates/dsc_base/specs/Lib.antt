@@ -1,3 +1,4 @@
+pub mod Fields
 pub mod FindingNames
 pub mod Numbers
 pub mod RuleNames

@@ -1,5 +1,5 @@
 -- Little-endian numbers in bytes, and sums of addresses. A list of bytes is a list of numbers below 256.
-use Rattle.std.specs.Prelude.{◌≡◌, ◌≤◌, ◌<◌, ℕ, ◌+◌, ◌*◌, ◌-◌, ◌%◌, ◌^◌, List, ◌++◌, take, drop}
+use Rattle.std.specs.Prelude.{◌≡◌, ◌≤◌, ℕ, ◌+◌, ◌*◌, List, ◌++◌, take, drop}
 use Rattle.byteorder.specs.Endian.{little_number, little_bytes}
 pub use Rattle.byteorder.specs.Endian.{little_number, little_bytes}
 
