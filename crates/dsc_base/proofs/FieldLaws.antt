@@ -35,6 +35,12 @@ length-spelled [] whole = refl
 length-spelled (f ∷ fs) whole =
     length-append (bytes_of f) (spelled fs) ∙ ap₂ (λ (a b : ℕ). a + b) (length-bytes_of f whole.0) (length-spelled fs whole.1)
 
+pub spelled-append : (fs gs : List Field) → spelled (fs ++ gs) ≡ spelled fs ++ spelled gs
+unfolding spelled
+spelled-append [] gs = refl
+spelled-append (f ∷ fs) gs =
+    ap (λ (l : List ℕ). bytes_of f ++ l) (spelled-append fs gs) ∙ sym (append_assoc (bytes_of f) (spelled fs) (spelled gs))
+
 -- a drop past the front of an append
 pub drop_past : (xs ys : List ℕ) (n at : ℕ) → length xs ≡ n → n ≤ at → drop at (xs ++ ys) ≡ drop (at - n) ys
 drop_past xs ys n at is le =

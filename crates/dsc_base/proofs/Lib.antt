@@ -1,2 +1,4 @@
+pub mod EditLaws
 pub mod FieldLaws
 pub mod NumberLaws
+pub mod OutsideLaws

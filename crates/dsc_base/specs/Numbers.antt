@@ -1,7 +1,7 @@
 -- Little-endian numbers in bytes, and sums of addresses. A list of bytes is a list of numbers below 256.
 use Rattle.std.specs.Prelude.{◌≡◌, ◌≤◌, ℕ, ◌+◌, ◌*◌, List, ◌++◌, take, drop}
 use Rattle.byteorder.specs.Endian.{little_number, little_bytes}
-pub use Rattle.byteorder.specs.Endian.{little_number, little_bytes}
+pub use Rattle.byteorder.specs.Endian.{big_number, little_number, little_bytes}
 
 -- the number in the w bytes from place at, the lowest first
 unfoldable pub number_at : ℕ → List ℕ → ℕ → ℕ

@@ -2,14 +2,25 @@
 //! findings with their faults, names and texts, and the outside of the program as traits.
 #![tactic(auto)]
 
+mod edits;
 mod fault;
 mod fields;
 mod finding_kind;
+mod name;
 mod numbers;
+mod outside;
 mod rule;
+mod text;
 
+pub use edits::{Edit, get_u16, get_u32, get_u64, put_edits};
 pub use fault::{Break, Fault, Finding, NoMemory, SetFault, Site, Span, UlebFault, ViewFault};
 pub use fields::{Field, spell_fields};
 pub use finding_kind::FindingKind;
+pub use name::Name;
 pub use numbers::{put_u16, put_u32, put_u64, read_u16, read_u32, read_u64, round_up};
+pub use outside::{
+    Gate, GetFault, MemSink, MemStore, OpenGate, Planned, PutFault, Sink, SinkFailed, SoundStore,
+    Store,
+};
 pub use rule::Rule;
+pub use text::Text;
