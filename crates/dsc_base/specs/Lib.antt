@@ -1,3 +1,4 @@
+pub mod Counted
 pub mod Edits
 pub mod Fields
 pub mod FindingNames
@@ -5,3 +6,4 @@ pub mod InMemory
 pub mod Numbers
 pub mod Outside
 pub mod RuleNames
+pub mod Uleb

@@ -11,6 +11,7 @@ mod numbers;
 mod outside;
 mod rule;
 mod text;
+mod uleb;
 
 pub use edits::{Edit, get_u16, get_u32, get_u64, put_edits};
 pub use fault::{Break, Fault, Finding, NoMemory, SetFault, Site, Span, UlebFault, ViewFault};
@@ -19,8 +20,9 @@ pub use finding_kind::FindingKind;
 pub use name::Name;
 pub use numbers::{put_u16, put_u32, put_u64, read_u16, read_u32, read_u64, round_up};
 pub use outside::{
-    Gate, GetFault, MemSink, MemStore, OpenGate, Planned, PutFault, Sink, SinkFailed, SoundStore,
-    Store,
+    FileStore, Gate, GetFault, MemSink, MemStore, OpenGate, Planned, PutFault, Sink, SinkFailed,
+    SoundStore, Store, WriterSink,
 };
 pub use rule::Rule;
 pub use text::Text;
+pub use uleb::{put_uleb, put_uleb4, read_sleb, read_uleb};

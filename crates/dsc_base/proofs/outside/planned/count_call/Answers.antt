@@ -1,5 +1,5 @@
 use Rattle.std.specs.Prelude.{suc}
-use Rattle.std.proofs.Common.{◌≡◌, ◌++◌, ◌+◌, ◌-◌, ℕ, List, ap, ◌∙◌, arith, take, drop, slice_set, slice_index_or}
+use Rattle.std.proofs.Common.{◌≡◌, ◌++◌, ◌+◌, ℕ, List, ap, ◌∙◌, arith, take, drop, slice_set, slice_index_or}
 use Rattle.dsc_base.specs.InMemory.{after_call, one_call_later}
 use Rattle.dsc_base.specs.declared.outside.planned.Planned.{Planned}
 use Rattle.dsc_base.proofs.OutsideLaws.{map_step}
