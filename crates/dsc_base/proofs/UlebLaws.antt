@@ -318,3 +318,59 @@ spelt_all spelling len rest value few ten so =
 pub uleb_at-behind : (before bytes : List ℕ) (at : ℕ) → length before ≡ at → uleb_at (before ++ bytes) at ≡ placed at (uleb 10 bytes)
 unfolding uleb_at
 uleb_at-behind before bytes at is = ap (λ (l : List ℕ). placed at (uleb 10 l)) (drop_at before bytes at is)
+
+-- the length of a spelling, counted from its front
+pub record IsCounted (len rest value : ℕ) : Type 0 where
+  pub more : ℕ
+  pub small : rest < 2 * room more
+  pub counted : len + length (shortest more rest) ≡ 1 + length (shortest 9 value)
+
+pub counted_none : (value : ℕ) → value < 2 ^ 64 → IsCounted 1 value value
+counted_none value small = record { more = 9; small = omega arith; counted = refl }
+
+pub counted_more : (len rest value : ℕ) → 128 ≤ rest → IsCounted len rest value → IsCounted (len + 1) (rest / 128) value
+counted_more len rest value large so = step so.more so.small so.counted
+  where
+    step : (more : ℕ) → rest < 2 * room more → len + length (shortest more rest) ≡ 1 + length (shortest 9 value) → IsCounted (len + 1) (rest / 128) value
+    step zero small counted = absurd (omega arith)
+    step (suc more) small counted = record {
+      more = more;
+      small = omega arith;
+      counted =
+          omega (arith, counted, ap length (cond-false (nat_lt rest 128) (rest ∷ []) ((128 + rest % 128) ∷ shortest more (rest / 128)) (le-ltb rest 128 large)));
+    }
+
+pub counted_all : (len rest value : ℕ) → rest < 128 → IsCounted len rest value → len ≡ length (shortest 9 value)
+counted_all len rest value few so = omega (arith, so.counted, shortest-one so.more rest few)
+
+-- a number of 7 times so many bits has so many bytes at most
+pub length-shortest : (more k value : ℕ) → value < 128 * room k → length (shortest more value) ≤ suc k
+length-shortest zero k value small = omega arith
+length-shortest (suc more) zero value small = omega (arith, shortest-one (suc more) value (omega arith))
+length-shortest (suc more) (suc k) value small =
+    elim (cases_lt value 128) [
+      | inl few ↦ omega (arith, shortest-one (suc more) value few)
+      | inr large ↦
+          omega (arith, length-shortest more k (value / 128) (omega arith), ap length (cond-false (nat_lt value 128) (value ∷ []) ((128 + value % 128) ∷ shortest more (value / 128)) (le-ltb value 128 large)))
+    ]
+
+pub length-uleb_bytes : (k value : ℕ) → value < 128 * room k → length (uleb_bytes value) ≤ suc k
+unfolding uleb_bytes
+length-uleb_bytes k value small = length-shortest 9 k value small
+
+pub length-shortest_some : (more value : ℕ) → length (shortest more value) ≤ suc more
+length-shortest_some zero value = omega arith
+length-shortest_some (suc more) value =
+    elim (cases_lt value 128) [
+      | inl few ↦ omega (arith, shortest-one (suc more) value few)
+      | inr large ↦
+          omega (arith, length-shortest_some more (value / 128), ap length (cond-false (nat_lt value 128) (value ∷ []) ((128 + value % 128) ∷ shortest more (value / 128)) (le-ltb value 128 large)))
+    ]
+
+pub length-uleb_bytes_ten : (value : ℕ) → length (uleb_bytes value) ≤ 10
+unfolding uleb_bytes
+length-uleb_bytes_ten value = length-shortest_some 9 value
+
+pub uleb_bytes-one : (value : ℕ) → value < 128 → uleb_bytes value ≡ value ∷ []
+unfolding uleb_bytes
+uleb_bytes-one value few = cond-true (nat_lt value 128) (value ∷ []) ((128 + value % 128) ∷ shortest 8 (value / 128)) (lt-ltb value 128 few)

@@ -25,4 +25,4 @@ pub use outside::{
 };
 pub use rule::Rule;
 pub use text::Text;
-pub use uleb::{put_uleb, put_uleb4, read_sleb, read_uleb};
+pub use uleb::{put_uleb, put_uleb4, read_sleb, read_uleb, uleb_len, uleb4};

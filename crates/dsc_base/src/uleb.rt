@@ -59,26 +59,47 @@ pub fn put_uleb(out: &mut Vec<u8>, value: u64) -> Result<(), NoMemory>
     Ok(())
 }
 
+/// How many bytes `put_uleb` appends.
+#[tactic(auto, unfolding(crate::specs::Uleb::uleb_bytes))]
+pub fn uleb_len(value: u64) -> usize
+    ensures len { result ≡ length (uleb_bytes value) }
+    ensures few { result ≤ 10 }
+{
+    let mut len = 1;
+    let mut rest = value;
+    while rest >= 128 {
+        rest /= 128;
+        len += 1;
+    }
+    len
+}
+
 /// Appends the number in four bytes, so that its length is known before the number is. After `NoMemory`
 /// `out` is as before.
-#[tactic(auto, using(crate::proofs::UlebLaws::uleb4_read_back), unfolding(crate::specs::Uleb::uleb4_bytes))]
 pub fn put_uleb4(out: &mut Vec<u8>, value: u32) -> Result<(), NoMemory>
     requires { value < 2 ^ 28 }
     ensures appended { OnOk result (out.new.items ≡ out.old.items ++ uleb4_bytes value) }
     ensures unchanged { OnErr result (out.new.items ≡ out.old.items) }
-    ensures four { length (uleb4_bytes value) ≡ 4 }
+{
+    out.extend_from_slice(&uleb4(value))?;
+    Ok(())
+}
+
+/// The number in four bytes.
+#[tactic(auto, using(crate::proofs::UlebLaws::uleb4_read_back), unfolding(crate::specs::Uleb::uleb4_bytes))]
+pub fn uleb4(value: u32) -> [u8; 4]
+    requires { value < 2 ^ 28 }
+    ensures spelled { result ≡ uleb4_bytes value }
     ensures read_back { (rest : List ℕ) → uleb_at (uleb4_bytes value ++ rest) 0 ≡ Ok (value, 4) }
 {
     let above = value / 128;
     let top = above / 128;
-    let spelling = [
+    [
         128 + (value % 128) as u8,
         128 + (above % 128) as u8,
         128 + (top % 128) as u8,
         (top / 128) as u8,
-    ];
-    out.extend_from_slice(&spelling)?;
-    Ok(())
+    ]
 }
 
 // The number at the front, and its length; at most ten calls deep.
