@@ -1,0 +1,10 @@
+pub mod CommandLaws
+pub mod Images
+pub mod Places
+pub mod Refusals
+pub mod Seconds
+pub mod Segments
+pub mod Sharing
+pub mod Splitting
+pub mod Texts
+pub mod Unbroken
