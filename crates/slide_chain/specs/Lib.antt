@@ -1,0 +1,4 @@
+pub mod Chains
+pub mod Info
+pub mod Making
+pub mod Marks
