@@ -1,0 +1,19 @@
+pub mod ChildLaws
+pub mod EdgeLaws
+pub mod EntryLaws
+pub mod FillLaws
+pub mod FindLaws
+pub mod GroupLaws
+pub mod ListLaws
+pub mod ListingLaws
+pub mod NameLaws
+pub mod NodeLaws
+pub mod PathLaws
+pub mod PlanLaws
+pub mod PrefixLaws
+pub mod ReadLaws
+pub mod RoundLaws
+pub mod SizeLaws
+pub mod SpellLaws
+pub mod WriteLaws
+mod Rows

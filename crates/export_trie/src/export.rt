@@ -1,0 +1,34 @@
+// What an image exports, and where an export leads.
+ghost use Rattle.std.specs.Prelude.{◌≡◌};
+
+use dsc_base::Name;
+
+/// Where an export leads.
+#[derive(Debug, Drop, PartialEq, Eq)]
+pub enum Target {
+    /// An offset from the image's header.
+    Offset(u64),
+    /// A value that is the same at every address.
+    Absolute(u64),
+    /// The export of another library, by the library's number among the dependencies. Where its name is
+    /// empty it has the name of this export.
+    Reexport { ordinal: u64, name: Name },
+}
+
+/// A name that an image exports. `flags` has the kind in its low two bits (0 regular, 1 thread-local,
+/// 2 absolute), 0x04 for a weak definition and 0x08 for a re-export, as `mach-o/loader.h` has them.
+#[derive(Debug, Drop, PartialEq, Eq)]
+pub struct Export {
+    pub name: Name,
+    pub flags: u8,
+    pub target: Target,
+}
+
+/// What a trie has of a name.
+#[derive(Clone, Copy, Debug, PartialEq, Eq)]
+pub enum Found<'a> {
+    Offset(u64),
+    Absolute(u64),
+    Reexport { ordinal: u64, name: &'a [u8] },
+    Absent,
+}
