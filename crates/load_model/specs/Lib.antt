@@ -1,0 +1,6 @@
+pub mod Corresponds
+pub mod Head
+pub mod Loading
+pub mod Mapped
+pub mod Memory
+pub mod Words

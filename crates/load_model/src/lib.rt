@@ -1,0 +1,2 @@
+//! What loading separate files means, what mapping a cache means, and when the two correspond.
+#![tactic(auto)]
