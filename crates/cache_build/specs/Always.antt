@@ -1,0 +1,15 @@
+-- A cache corresponds to its files wherever they are loaded, and at every slide that its header permits.
+use Rattle.std.specs.Prelude.{ℕ, List, map}
+use Rattle.macho_image.specs.Macho.{image_of}
+use Rattle.load_model.specs.Loading.{Linked, linked, IsPlacement}
+use Rattle.load_model.specs.Head.{max_slide}
+use Rattle.load_model.specs.Mapped.{IsPermitted}
+use Rattle.load_model.specs.Corresponds.{Corresponds}
+
+-- the files as loading sees them: the images that they spell, with what their streams spell
+abbrev pub set_of : List (List ℕ) → List Linked
+set_of files = map (λ (file : List ℕ). linked (image_of file 0)) files
+
+abbrev pub CorrespondsAlways : List (List ℕ) → List ℕ → Type 0
+CorrespondsAlways files cache =
+    (slides : ℕ → ℕ) → IsPlacement slides → (slide : ℕ) → IsPermitted (max_slide cache) slide → Corresponds (set_of files) slides cache slide
