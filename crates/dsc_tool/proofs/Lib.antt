@@ -1,0 +1,4 @@
+pub mod EndLaws
+pub mod OutputLaws
+pub mod PrefixLaws
+pub mod ToldLaws

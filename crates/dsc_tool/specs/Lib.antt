@@ -1,0 +1,9 @@
+pub mod Causes
+pub mod Output
+pub mod Ran
+pub mod Statuses
+pub mod Steps
+pub mod Stops
+pub mod Streams
+pub mod Texts
+pub mod Words

@@ -1,0 +1,47 @@
+//! `dsc`: builds the dyld shared cache of a dylib. `run` does what the words ask for, over any store and
+//! any streams; `main` gives it the real ones.
+#![tactic(auto)]
+
+mod command;
+mod product;
+mod run;
+mod status;
+mod stop;
+mod text;
+
+pub use command::{Command, WordsFault, read_words};
+use dsc_base::{FileStore, OpenGate, WriterSink};
+pub use run::run;
+use run::tell;
+pub use status::Status;
+use std::alloc::Global;
+use std::io::ErrorKind;
+use std::process::ExitCode;
+use std::{env, io};
+use text::no_memory_text;
+
+fn main(rt: HostRuntime) -> ExitCode {
+    let alloc = rt.alloc();
+    let mut store = FileStore::new(&rt);
+    let mut out = WriterSink::new(rt.stdout());
+    let mut err = WriterSink::new(rt.stderr());
+    let status = match read_args(&rt, alloc) {
+        Ok(words) => run(
+            &rt, alloc, &words, &mut store, &mut out, &mut err, &OpenGate,
+        ),
+        Err(error) if error.kind() == ErrorKind::OutOfMemory => {
+            tell(no_memory_text(), Status::Memory, &mut err)
+        }
+        // A word that isn't text is in no command, and no words are none.
+        Err(_) => run(&rt, alloc, &[], &mut store, &mut out, &mut err, &OpenGate),
+    };
+    ExitCode::from(status.code())
+}
+
+// The words behind the program's name.
+fn read_args(rt: &HostRuntime, alloc: Global) -> io::Result<Vec<String>> {
+    Ok(env::args(rt)?.skip(1).collect(alloc)?)
+}
+
+#[cfg(test)]
+mod tests;

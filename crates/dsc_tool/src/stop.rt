@@ -1,0 +1,68 @@
+// Why a run ends before anything is put.
+ghost use Rattle.std.specs.Prelude.{◌≡◌};
+ghost use Rattle.dsc_tool.specs.declared.stop.Stop.TheVariants as stops;
+ghost use Rattle.dsc_tool.specs.Stops.{words_stop, set_stop, get_stop};
+
+use crate::command::WordsFault;
+use dsc_base::{Break, GetFault, NoMemory, Rule, SetFault};
+
+/// The most bytes that a file may have.
+pub(crate) const FILE_LIMIT: u64 = 0x400_0000;
+
+/// Why a run ends before anything is put.
+#[derive(Clone, Copy, Debug, PartialEq, Eq)]
+pub enum Stop {
+    /// The words are no command.
+    BadWords,
+    /// The input with this number was not read. Inputs count from 0.
+    Unread(u32),
+    /// The files break this rule.
+    Refused(Break),
+    /// Memory ran out.
+    Memory,
+}
+
+impl From<WordsFault> for Stop {
+    ghost from_gives = { λ fault stop. stop ≡ words_stop fault };
+
+    fn from(fault: WordsFault) -> Self {
+        match fault {
+            WordsFault::BadWords => Stop::BadWords,
+            WordsFault::Memory => Stop::Memory,
+        }
+    }
+}
+
+impl From<SetFault> for Stop {
+    ghost from_gives = { λ fault stop. stop ≡ set_stop fault };
+
+    fn from(fault: SetFault) -> Self {
+        match fault {
+            SetFault::Broken(found) => Stop::Refused(found),
+            SetFault::Memory => Stop::Memory,
+        }
+    }
+}
+
+impl From<NoMemory> for Stop {
+    ghost from_gives = { λ _ stop. stop ≡ stops.Memory };
+
+    fn from(_: NoMemory) -> Self {
+        Stop::Memory
+    }
+}
+
+/// Why the input with this number was not read. One of too many bytes breaks a rule.
+pub(crate) fn unread(input: u32, fault: GetFault) -> Stop
+    ensures { result ≡ get_stop input fault }
+{
+    match fault {
+        GetFault::Absent | GetFault::Failed => Stop::Unread(input),
+        GetFault::TooLarge => Stop::Refused(Break {
+            rule: Rule::FileTooLarge,
+            image: input,
+            at: FILE_LIMIT,
+        }),
+        GetFault::Memory => Stop::Memory,
+    }
+}

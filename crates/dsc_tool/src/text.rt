@@ -1,0 +1,57 @@
+// The lines that a run prints.
+ghost use Rattle.std.specs.Prelude.{◌≡◌, IfOk, string_bytes};
+ghost use Rattle.dsc_tool.specs.Texts.{usage_line, cannot_write_line, no_memory_line, cannot_read_line, refused_line, built_line};
+
+use dsc_base::{Break, NoMemory};
+use std::alloc::Global;
+
+/// How the program is called.
+#[tactic(auto, unfolding(crate::specs::Texts::usage_line))]
+pub(crate) fn usage_text() -> &'static str
+    ensures { result.now ≡ usage_line }
+{
+    "usage: dsc build OUT IN\n"
+}
+
+/// A file or standard output was not written.
+#[tactic(auto, unfolding(crate::specs::Texts::cannot_write_line))]
+pub(crate) fn cannot_write_text() -> &'static str
+    ensures { result.now ≡ cannot_write_line }
+{
+    "dsc: cannot write\n"
+}
+
+/// Memory ran out.
+#[tactic(auto, unfolding(crate::specs::Texts::no_memory_line))]
+pub(crate) fn no_memory_text() -> &'static str
+    ensures { result.now ≡ no_memory_line }
+{
+    "dsc: no memory\n"
+}
+
+/// The input with this number was not read. Inputs count from 0.
+#[tactic(auto, unfolding(crate::specs::Texts::cannot_read_line))]
+pub(crate) fn cannot_read_text(alloc: Global, input: u32) -> Result<String, NoMemory>
+    ensures { IfOk result (λ text. string_bytes text ≡ cannot_read_line input) }
+{
+    Ok(format!(in alloc; "dsc: cannot read input {input}\n")?)
+}
+
+/// The files break this rule.
+#[tactic(auto, unfolding(crate::specs::Texts::refused_line))]
+pub(crate) fn refused_text(alloc: Global, found: &Break) -> Result<String, NoMemory>
+    ensures { IfOk result (λ text. string_bytes text ≡ refused_line found.now) }
+{
+    let Break { rule, image, at } = *found;
+    let number = rule.number();
+    let name = rule.text();
+    Ok(format!(in alloc; "dsc: refused {number} {name} image {image} at 0x{at:x}\n")?)
+}
+
+/// So many images were built to a cache of this span, in bytes.
+#[tactic(auto, unfolding(crate::specs::Texts::built_line))]
+pub(crate) fn built_text(alloc: Global, images: u32, span: u64) -> Result<String, NoMemory>
+    ensures { IfOk result (λ text. string_bytes text ≡ built_line images span) }
+{
+    Ok(format!(in alloc; "built {images} images, span 0x{span:x}\n")?)
+}
