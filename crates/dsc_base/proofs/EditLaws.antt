@@ -121,6 +121,27 @@ put_all-order xs ys b in_xs apart_xs in_ys apart_ys to back =
           ∙ sym (get_or-put_all_apart ys b i in_ys (ApartFrom-each ys i (λ y among. ApartFrom-among y xs i apart (back y among))))
     ])
 
+-- edits over other edits that change no further byte leave what they leave alone
+pub put_all-covered : (xs ys : List Edit) (b : List ℕ) → AllInside (length b) xs → AllInside (length b) ys → AllApart ys → ((i : ℕ) → ApartFrom i 1 ys → ApartFrom i 1 xs) → put_all ys (put_all xs b) ≡ put_all ys b
+put_all-covered xs ys b in_xs in_ys apart covers =
+    let long : length (put_all xs b) ≡ length b = length-put_all xs b in_xs in
+    let in_after : AllInside (length (put_all xs b)) ys = subst (λ (n : ℕ). AllInside n ys) (sym long) in_ys in
+    ext_get_or 0 (put_all ys (put_all xs b)) (put_all ys b) (length-put_all ys (put_all xs b) in_after ∙ (long ∙ sym (length-put_all ys b in_ys)))
+    (λ i lt. elim (in_one_or_apart ys i) [
+      | inl found ↦
+          let y : Edit = found.0 in
+          let place : y.at + (i - y.at) ≡ i = omega (arith, found.1.1) in
+          let small : i - y.at < y.width = omega (arith, found.1.1, found.1.2) in
+          ap (λ (j : ℕ). get_or (put_all ys (put_all xs b)) j 0) (sym place)
+          ∙ (get_or-put_all y ys (put_all xs b) (i - y.at) in_after apart found.1.0 small
+          ∙ (sym (get_or-put_all y ys b (i - y.at) in_ys apart found.1.0 small)
+          ∙ ap (λ (j : ℕ). get_or (put_all ys b) j 0) place))
+      | inr free ↦
+          get_or-put_all_apart ys (put_all xs b) i in_after free
+          ∙ (get_or-put_all_apart xs b i in_xs (covers i free)
+          ∙ sym (get_or-put_all_apart ys b i in_ys free))
+    ])
+
 -- edits that follow one another keep apart
 ApartFrom-rising : (at w n : ℕ) (es : List Edit) → at + w ≤ n → RisesFrom n es → ApartFrom at w es
 ApartFrom-rising at w n [] le rises = tt

@@ -319,6 +319,68 @@ pub uleb_at-behind : (before bytes : List ℕ) (at : ℕ) → length before ≡ 
 unfolding uleb_at
 uleb_at-behind before bytes at is = ap (λ (l : List ℕ). placed at (uleb 10 l)) (drop_at before bytes at is)
 
+-- a number that was read has no more bits than its bytes allow
+abbrev Read : ℕ → ℕ → Result (ℕ × ℕ) UlebFault
+Read value len = Ok (value, len)
+
+abbrev number_read : Result (ℕ × ℕ) UlebFault → ℕ
+number_read (Err fault) = 0
+number_read (Ok p) = p.0
+
+read_value : (a b m n : ℕ) → Read a m ≡ Read b n → a ≡ b
+read_value a b m n is = ap number_read is
+
+last-fits : (left byte value len : ℕ) → ended_by left byte ≡ Read value len → byte < 128 → value < 2 * room left
+last-fits zero byte value len is low =
+    elim (cases_lt 1 byte) [
+      | inl big ↦ absurd (refused (sym (cond-true (nat_lt 1 byte) (Err TooWide) (Ok (byte, 1)) (lt-ltb 1 byte big)) ∙ is))
+      | inr small ↦
+          let e : byte ≡ value = read_value byte value 1 len (sym (cond-false (nat_lt 1 byte) (Err TooWide) (Ok (byte, 1)) (le-ltb 1 byte small)) ∙ is) in
+          omega (arith, e, small)
+    ]
+  where
+    refused : (let r : Result (ℕ × ℕ) UlebFault = Err TooWide in r) ≡ Read value len → ⊥
+    refused is = cc
+last-fits (suc left) byte value len is low = let e : byte ≡ value = read_value byte value 1 len is in omega (arith, e, low, room_some left)
+
+more-fits : (byte most value len : ℕ) (r : Result (ℕ × ℕ) UlebFault) → ((rest n : ℕ) → r ≡ Read rest n → rest < most) → continued (byte % 128) r ≡ Read value len → value < 128 * most
+more-fits byte most value len (Err fault) fits is = absurd (cc)
+more-fits byte most value len (Ok (rest, n)) fits is =
+    let below : rest < most = fits rest n refl in
+    let e : byte % 128 + 128 * rest ≡ value = read_value (byte % 128 + 128 * rest) value (n + 1) len is in
+    omega (arith, e, below)
+
+uleb-fits : (left : ℕ) (bytes : List ℕ) (value len : ℕ) → uleb (suc left) bytes ≡ Read value len → value < 2 * room left
+uleb-fits left [] value len is = absurd (cc)
+uleb-fits zero (byte ∷ bytes) value len is =
+    elim (cases_lt byte 128) [
+      | inl low ↦ last-fits zero byte value len (sym (uleb-last zero byte bytes low) ∙ is) low
+      | inr high ↦ absurd (refused (sym (cond-false (nat_lt byte 128) (ended_by zero byte) (continued (byte % 128) (uleb zero bytes)) (le-ltb byte 128 high)) ∙ is))
+    ]
+  where
+    refused : (let r : Result (ℕ × ℕ) UlebFault = Err TooWide in r) ≡ Read value len → ⊥
+    refused is = cc
+uleb-fits (suc left) (byte ∷ bytes) value len is =
+    elim (cases_lt byte 128) [
+      | inl low ↦ last-fits (suc left) byte value len (sym (uleb-last (suc left) byte bytes low) ∙ is) low
+      | inr high ↦
+          let below : value < 128 * (2 * room left) =
+          more-fits byte (2 * room left) value len (uleb (suc left) bytes) (λ rest n read. uleb-fits left bytes rest n read)
+          (sym (cond-false (nat_lt byte 128) (ended_by (suc left) byte) (continued (byte % 128) (uleb (suc left) bytes)) (le-ltb byte 128 high)) ∙ is) in
+          omega (arith, below)
+    ]
+
+pub uleb_at-fits : (bytes : List ℕ) (at value end : ℕ) → uleb_at bytes at ≡ Ok (value, end) → value < 2 ^ 64
+unfolding uleb_at
+uleb_at-fits bytes at value end read = go (uleb 10 (drop at bytes)) refl read
+  where
+    go : (r : Result (ℕ × ℕ) UlebFault) → uleb 10 (drop at bytes) ≡ r → placed at r ≡ Read value end → value < 2 ^ 64
+    go (Err fault) is read = absurd (cc)
+    go (Ok (rest, n)) is read =
+        let e : rest ≡ value = read_value rest value (at + n) end read in
+        let below : rest < 2 * room 9 = uleb-fits 9 (drop at bytes) rest n is in
+        omega (arith, e, below)
+
 -- the length of a spelling, counted from its front
 pub record IsCounted (len rest value : ℕ) : Type 0 where
   pub more : ℕ

@@ -5,5 +5,6 @@ pub mod FindingNames
 pub mod InMemory
 pub mod Numbers
 pub mod Outside
+pub mod Region
 pub mod RuleNames
 pub mod Uleb

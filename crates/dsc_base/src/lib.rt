@@ -9,6 +9,7 @@ mod finding_kind;
 mod name;
 mod numbers;
 mod outside;
+mod region;
 mod rule;
 mod text;
 mod uleb;
@@ -23,6 +24,7 @@ pub use outside::{
     FileStore, Gate, GetFault, MemSink, MemStore, OpenGate, Planned, PutFault, Sink, SinkFailed,
     SoundStore, Store, WriterSink,
 };
+pub use region::{PAGE, REGION_SIZE, REGION_START, page_up};
 pub use rule::Rule;
 pub use text::Text;
 pub use uleb::{put_uleb, put_uleb4, read_sleb, read_uleb, uleb_len, uleb4};

@@ -1,5 +1,5 @@
 -- The loop's steps.
-use Rattle.std.proofs.Common.{◌≤◌, ◌<◌, ◌+◌, arith}
+use Rattle.std.proofs.Common.{arith}
 use Rattle.dsc_base.specs.Uleb.{uleb_bytes}
 use Rattle.dsc_base.proofs.UlebLaws.{counted_none, counted_more, counted_all, length-shortest_some}
 use Rattle.dsc_base.proofs.uleb.uleb_len.Goals as goal
