@@ -5,7 +5,7 @@ use Rattle.dsc_base.specs.Numbers.{number_at}
 use lib.Pointwise.{pointwise}
 use Rattle.macho_image.specs.declared.form.Form.{Form}
 use Rattle.macho_image.specs.declared.form.Form.TheVariants.{Standalone, Cached}
-use Rattle.macho_image.specs.Records.{Load, SegmentLoad, SectionLoad}
+use Rattle.macho_image.specs.Records.{Seg, Load, SegmentLoad, SectionLoad}
 use Rattle.macho_image.specs.Macho.{header_size, number_of, size_of, is_segment, is_install_name, is_uuid, is_symtab, is_dysymtab, is_dyld_info, is_split_info, is_function_starts, is_data_in_code, is_dylib, dylib_name}
 
 -- the lower of two places
@@ -107,8 +107,15 @@ breaks_no_install_name ls = if list_any (λ l. is_install_name (number_of l.byte
 abbrev pub is_text : SegmentLoad → Bool
 is_text s = same_bytes s.name (codes "__TEXT" ++ (0 ∷ 0 ∷ 0 ∷ 0 ∷ 0 ∷ 0 ∷ 0 ∷ 0 ∷ 0 ∷ 0 ∷ []))
 
+abbrev pub is_linkedit_name : List ℕ → Bool
+is_linkedit_name name = same_bytes name (codes "__LINKEDIT" ++ (0 ∷ 0 ∷ 0 ∷ 0 ∷ 0 ∷ 0 ∷ []))
+
 abbrev pub is_linkedit : SegmentLoad → Bool
-is_linkedit s = same_bytes s.name (codes "__LINKEDIT" ++ (0 ∷ 0 ∷ 0 ∷ 0 ∷ 0 ∷ 0 ∷ []))
+is_linkedit s = is_linkedit_name s.name
+
+-- the same of a segment with its bytes
+abbrev pub is_linkedit_segment : Seg → Bool
+is_linkedit_segment s = is_linkedit_name s.name
 
 abbrev pub is_well_shaped : SegmentLoad → Bool
 is_well_shaped s =

@@ -1,4 +1,8 @@
 // An image: what a dylib's header spells, and the parts of its file that the header names.
+ghost use Rattle.std.specs.Prelude.{◌≡◌};
+ghost use Rattle.macho_image.specs.Rules.{is_linkedit_segment};
+
+use crate::segment::LINKEDIT;
 use crate::{LinkKind, Section};
 use std::marker::Model;
 
@@ -22,6 +26,15 @@ impl<'a> Model for Segment<'a> {
     ghost Value = { Seg };
 
     ghost view = { λ s. record { name = s.name; vmaddr = s.vmaddr; vmsize = s.vmsize; fileoff = s.fileoff; filesize = s.filesize; maxprot = s.maxprot; initprot = s.initprot; flags = s.flags; bytes = s.bytes.now } };
+}
+
+impl<'a> Segment<'a> {
+    /// Whether this is `__LINKEDIT`, the segment of the streams and tables.
+    pub fn is_linkedit(&self) -> bool
+        ensures { result ≡ is_linkedit_segment self.now }
+    {
+        self.name == LINKEDIT
+    }
 }
 
 /// A dylib that the image needs, by the path that it names.

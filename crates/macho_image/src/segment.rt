@@ -111,7 +111,7 @@ pub(crate) fn read_segments(
 
 const TEXT: [u8; 16] = *b"__TEXT\0\0\0\0\0\0\0\0\0\0";
 
-const LINKEDIT: [u8; 16] = *b"__LINKEDIT\0\0\0\0\0\0";
+pub(crate) const LINKEDIT: [u8; 16] = *b"__LINKEDIT\0\0\0\0\0\0";
 
 pub(crate) fn is_text(segment: &SegmentCommand) -> bool
     ensures { result ≡ is_text segment.now }

@@ -1,4 +1,6 @@
 // Files that keep the rules, and for each rule files that break it, each made of one file by a few edits.
+ghost use Rattle.std.specs.Prelude.{◌≤◌};
+
 use super::*;
 use dsc_base::{Fault, put_u32};
 use std::alloc::Global;
@@ -295,6 +297,61 @@ fn broken(alloc: Global, file: &[u8], header_at: u64, form: Form) -> Option<(u16
         Err(Fault::Broken(site)) => Some((site.rule.number(), site.at)),
         Err(Fault::Memory) => None,
     }
+}
+
+// A dylib whose text segment has so many sections of no size.
+fn crowded_dylib(alloc: Global, sections: u32) -> Result<Vec<u8>, Fail>
+    requires { sections ≤ 256 }
+{
+    let end = 0x68 + 80 * sections as usize;
+    let mut file = file_with(alloc, 0x8040, &DYLIB)?;
+    file.truncate(0x68);
+    file.resize(0x8040, 0)?;
+    let sizes = [
+        (0x10, 3),
+        (0x14, 184 + 80 * sections),
+        (0x24, 72 + 80 * sections),
+        (0x40, 0x8000),
+        (0x50, 0x8000),
+        (0x60, sections),
+    ];
+    let linkedit = [
+        (end, 0x19),
+        (end + 0x4, 0x48),
+        (end + 0x8, 0x494c5f5f),
+        (end + 0xc, 0x44454b4e),
+        (end + 0x10, 0x5449),
+        (end + 0x18, 0x8000),
+        (end + 0x20, 0x1000),
+        (end + 0x28, 0x8000),
+        (end + 0x30, 0x40),
+        (end + 0x38, 0x1),
+        (end + 0x3c, 0x1),
+    ];
+    let install_name = [
+        (end + 0x48, 0xd),
+        (end + 0x4c, 0x28),
+        (end + 0x50, 0x18),
+        (end + 0x60, 0x642e612f),
+        (end + 0x64, 0x62696c79),
+    ];
+    put_all(&mut file, &sizes);
+    for section in 0..sections {
+        put_all(&mut file, &[(0x88 + 80 * section as usize, 0x7000)]);
+    }
+    put_all(&mut file, &linkedit);
+    put_all(&mut file, &install_name);
+    Ok(file)
+}
+
+#[test]
+fn sections_are_at_most_255(rt: HostRuntime) -> Result<(), Fail> {
+    let alloc = rt.alloc();
+    let most = crowded_dylib(alloc, 255)?;
+    assert_eq!(rt; broken(alloc, &most, 0, Form::Standalone), Some((0, 0)));
+    let many = crowded_dylib(alloc, 256)?;
+    assert_eq!(rt; broken(alloc, &many, 0, Form::Standalone), Some((12, 0x20)));
+    Ok(())
 }
 
 #[test]
