@@ -19,13 +19,13 @@ AreBytes area = (k : ℕ) → get_or area k 0 < 256
 
 -- ---- the edits that linking is
 
-linking-inside : (limit size from : ℕ) (area ws : List ℕ) → size % 4096 ≡ 0 → AreWords from ws → AllBelow size ws → AllInside size (map (settled area) (linking limit ws))
+pub linking-inside : (limit size from : ℕ) (area ws : List ℕ) → size % 4096 ≡ 0 → AreWords from ws → AllBelow size ws → AllInside size (map (settled area) (linking limit ws))
 unfolding linking
 linking-inside limit size from area [] even words under = tt
 linking-inside limit size from area (a ∷ ws) even words under =
     (omega (arith, words.2, under.0), linking-inside limit size (a + 8) area ws even words.3 under.1)
 
-linking-rises : (limit from : ℕ) (area ws : List ℕ) → AreWords from ws → RisesFrom from (map (settled area) (linking limit ws))
+pub linking-rises : (limit from : ℕ) (area ws : List ℕ) → AreWords from ws → RisesFrom from (map (settled area) (linking limit ws))
 unfolding linking
 linking-rises limit from area [] words = tt
 linking-rises limit from area (a ∷ ws) words = (words.0, linking-rises limit (a + 8) area ws words.3)
@@ -66,7 +66,7 @@ abbrev pub KeepsValues : ℕ → List ℕ → List ℕ → List ℕ → Type 0
 KeepsValues mask area after [] = Unit {0}
 KeepsValues mask area after (a ∷ ws) = ((kept mask (number_at 8 after a) ≡ number_at 8 area a) × (number_at 8 area a < 2 ^ 64)) × KeepsValues mask area after ws
 
-linking-keeps : (n : ℕ) (area after ws : List ℕ) → 1 ≤ n → n ≤ 16 → AreBytes area → AreOutside ((2 ^ n - 1) * 2 ^ 48) area ws
+pub linking-keeps : (n : ℕ) (area after ws : List ℕ) → 1 ≤ n → n ≤ 16 → AreBytes area → AreOutside ((2 ^ n - 1) * 2 ^ 48) area ws
     → Holds after (map (settled area) (linking (2 ^ n - 1) ws)) → KeepsValues ((2 ^ n - 1) * 2 ^ 48) area after ws
 unfolding linking
 linking-keeps n area after [] some most bytes outside holds = tt
@@ -139,7 +139,7 @@ pub record IsLinkable (n size : ℕ) (area ws : List ℕ) : Type 0 where
   pub under : AllBelow size ws
   pub outside : AreOutside ((2 ^ n - 1) * 2 ^ 48) area ws
 
-linkable-holds : (n size : ℕ) (area ws : List ℕ) → IsLinkable n size area ws → Holds (change_all (linking (2 ^ n - 1) ws) area) (map (settled area) (linking (2 ^ n - 1) ws))
+pub linkable-holds : (n size : ℕ) (area ws : List ℕ) → IsLinkable n size area ws → Holds (change_all (linking (2 ^ n - 1) ws) area) (map (settled area) (linking (2 ^ n - 1) ws))
 linkable-holds n size area ws fit = linking-holds n size 0 area ws fit.some fit.most fit.even fit.long fit.bytes fit.words fit.under fit.outside
 
 pub linkable-links : (n size : ℕ) (area ws : List ℕ) → IsLinkable n size area ws → AreLinked ((2 ^ n - 1) * 2 ^ 48) (change_all (linking (2 ^ n - 1) ws) area) (2 ^ n - 1) ws

@@ -380,3 +380,10 @@ leaving-below mask extras area page start =
     AllOf-append (λ x. x ≤ page + 0xFF8) (map (λ h. page) (filter (nat_lt (page + 0xFF8)) (heads extras page start))) (filter (leaves mask area page) (page_reached mask extras area page start))
     (map-below page (page + 0xFF8) (filter (nat_lt (page + 0xFF8)) (heads extras page start)) (omega arith))
     (AllOf-filter (λ x. x ≤ page + 0xFF8) (leaves mask area page) (page_reached mask extras area page start) (reached-below mask extras area page start))
+
+-- what is said of an option that is known
+pub some-is : {X : Type 0} (o : Option X) (x : X) (P : X → Type 0) → o ≡ Some x → IfSome o P → P x
+some-is {X} o x P is holds = let tells : IfSome (Some x) P = subst (λ (p : Option X). IfSome p P) is holds in tells
+
+pub none-is : {X : Type 0} (o : Option X) (P : Type 0) → o ≡ None → IfNone o P → P
+none-is {X} o P is holds = let tells : IfNone {T = X} None P = subst (λ (p : Option X). IfNone p P) is holds in tells

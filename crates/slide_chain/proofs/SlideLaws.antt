@@ -1,134 +1,19 @@
 -- Words that are slid in place: those behind are as they were until their turn comes.
-use Rattle.std.proofs.Common.{◌≡◌, ◌<◌, ◌≤◌, ◌⊎◌, ℕ, zero, suc, ◌+◌, ◌*◌, ◌%◌, List, [], ◌∷◌, ◌++◌, map, length, take, drop, get_or, sym, ap, ap₂, subst, refl, inl, inr, ◌∙◌, arith, cond, Bool, true, false}
-use Rattle.std.specs.Prelude.{nat_eq, nat_lt, nat_le, ◌&&◌, ◌||◌, filter, Option, Some, None, if◌then◌else◌}
-use Rattle.std.specs.List.{flat_map, list_any}
-use Rattle.std.proofs.lemmas.Bool.{eq-eqb, ne_eqb, lt-ltb, le-ltb, le-leb, leb-false, ltb-false, cond-true, cond-false, cases_eq, cases_lt, and_cases, false≢true, cases_Bool, or_right}
-use Rattle.std.proofs.lemmas.List.{append-nil, append_assoc, drop_all}
+use Rattle.std.proofs.Common.{◌≡◌, ◌<◌, ◌≤◌, ℕ, zero, suc, ◌+◌, ◌*◌, ◌%◌, List, [], ◌∷◌, ◌++◌, map, length, take, drop, get_or, sym, ap, ap₂, subst, refl, inl, inr, ◌∙◌, arith, true, false}
+use Rattle.std.specs.Prelude.{nat_eq, nat_lt, filter, if◌then◌else◌}
+use Rattle.std.specs.List.{flat_map}
+use Rattle.std.proofs.lemmas.Bool.{eq-eqb, lt-ltb, ltb-false, cond-true, cond-false, cases_eq, cases_lt}
+use Rattle.std.proofs.lemmas.List.{append-nil, drop_all}
 use Rattle.dsc_base.specs.Numbers.{number_at, put_number}
 use Rattle.dsc_base.specs.Edits.{change_all}
-use Rattle.dsc_base.specs.declared.finding_kind.FindingKind.TheVariants.{ExtrasEnd, ChainLeavesPage, ChainsOverlap}
-use Rattle.dsc_base.proofs.NumberLaws.{number_at-put_other, length-put_number}
-use Rattle.slide_chain.specs.Chains.{Slide, chain_finding, leaving, reached, endless_page, delta_of, moved, moving, KeepsApart, AreApart, chain, is_marked, extra_heads, heads, page_reached, page_leaving, each_page, overlapping, least, found}
+use Rattle.slide_chain.specs.Chains.{delta_of, moved, moving, AreApart, chain, is_marked, extra_heads, heads, page_reached, page_leaving, each_page}
 use Rattle.slide_chain.proofs.ListLaws.{drop-at}
 use Rattle.slide_chain.proofs.MadeLaws.{chain-ends, chain-goes}
 use Rattle.slide_chain.proofs.MarkLaws.{AllOf, AllOf-map, heads-at, one-head, many-heads}
 use Rattle.slide_chain.proofs.PageLaws.{AllOf-flat_map, chain-below, reached-below}
-use Rattle.slide_chain.proofs.ReadLaws.{each_page-below, each_page-split}
-
--- ---- places that keep apart
-
-KeepsApart-append : (a : ℕ) (xs ys : List ℕ) → KeepsApart a (xs ++ ys) → KeepsApart a xs × KeepsApart a ys
-KeepsApart-append a [] ys apart = (tt, apart)
-KeepsApart-append a (x ∷ xs) ys apart =
-    let later : KeepsApart a xs × KeepsApart a ys = KeepsApart-append a xs ys apart.1 in
-    ((apart.0, later.0), later.1)
-
-KeepsApart-join : (a : ℕ) (xs ys : List ℕ) → KeepsApart a xs → KeepsApart a ys → KeepsApart a (xs ++ ys)
-KeepsApart-join a [] ys left right = right
-KeepsApart-join a (x ∷ xs) ys left right = (left.0, KeepsApart-join a xs ys left.1 right)
-
-pub apart-left : (xs ys : List ℕ) → AreApart (xs ++ ys) → AreApart xs
-apart-left [] ys apart = tt
-apart-left (x ∷ xs) ys apart = ((KeepsApart-append x xs ys apart.0).0, apart-left xs ys apart.1)
-
-pub apart-right : (xs ys : List ℕ) → AreApart (xs ++ ys) → AreApart ys
-apart-right [] ys apart = apart
-apart-right (x ∷ xs) ys apart = apart-right xs ys apart.1
-
--- a place is apart from those before it
-apart-before : (xs : List ℕ) (a : ℕ) (ys : List ℕ) → AreApart (xs ++ (a ∷ ys)) → KeepsApart a xs
-apart-before [] a ys apart = tt
-apart-before (x ∷ xs) a ys apart =
-    (elim (KeepsApart-append x xs (a ∷ ys) apart.0).1.0 [ inl below ↦ inr below | inr above ↦ inl above ], apart-before xs a ys apart.1)
-
--- ---- words that are moved
-
-length-moved : (mask value_add slide : ℕ) (done b : List ℕ) → AllOf (λ p. p + 8 ≤ length b) done → length (change_all (map (moving mask value_add slide) done) b) ≡ length b
-unfolding change_all
-length-moved mask value_add slide [] b inside = refl
-length-moved mask value_add slide (p ∷ done) b inside =
-    let after : List ℕ = put_number 8 b p (moved mask value_add slide (number_at 8 b p)) in
-    let step : length (put_number 8 b p (moved mask value_add slide (number_at 8 b p))) ≡ length b = length-put_number 8 b p (moved mask value_add slide (number_at 8 b p)) inside.0 in
-    length-moved mask value_add slide done after (AllOf-map (λ q. q + 8 ≤ length b) (λ q. q + 8 ≤ length after) done (λ q le. omega (arith, le, step)) inside.1) ∙ step
-
--- a word apart from all that are moved
-moved-apart : (mask value_add slide : ℕ) (done b : List ℕ) (a : ℕ) → AllOf (λ p. p + 8 ≤ length b) done → KeepsApart a done → number_at 8 (change_all (map (moving mask value_add slide) done) b) a ≡ number_at 8 b a
-unfolding change_all
-moved-apart mask value_add slide [] b a inside apart = refl
-moved-apart mask value_add slide (p ∷ done) b a inside apart =
-    let after : List ℕ = put_number 8 b p (moved mask value_add slide (number_at 8 b p)) in
-    let step : length (put_number 8 b p (moved mask value_add slide (number_at 8 b p))) ≡ length b = length-put_number 8 b p (moved mask value_add slide (number_at 8 b p)) inside.0 in
-    moved-apart mask value_add slide done after a (AllOf-map (λ q. q + 8 ≤ length b) (λ q. q + 8 ≤ length after) done (λ q le. omega (arith, le, step)) inside.1) apart.1
-    ∙ number_at-put_other 8 b p (moved mask value_add slide (number_at 8 b p)) 8 a (omega (arith, inside.0)) apart.0
-
-moved-append : (mask value_add slide : ℕ) (xs ys b : List ℕ) → change_all (map (moving mask value_add slide) (xs ++ ys)) b ≡ change_all (map (moving mask value_add slide) ys) (change_all (map (moving mask value_add slide) xs) b)
-unfolding change_all
-moved-append mask value_add slide [] ys b = refl
-moved-append mask value_add slide (x ∷ xs) ys b = moved-append mask value_add slide xs ys (put_number 8 b x (moved mask value_add slide (number_at 8 b x)))
-
--- ---- what is done and what is left
-
--- some of the places were moved, and the others are left
-pub record Moving (mask value_add : ℕ) (before now left whole : List ℕ) : Type 0 where
-  pub done : List ℕ
-  pub parts : done ++ left ≡ whole
-  pub is : now ≡ change_all (map (moving mask value_add 0) done) before
-
-change_none : (b : List ℕ) → change_all [] b ≡ b
-unfolding change_all
-change_none b = refl
-
-pub moving-none : (mask value_add : ℕ) (before whole : List ℕ) → Moving mask value_add before before whole whole
-moving-none mask value_add before whole = record { done = []; parts = refl; is = sym (change_none before) }
-
-pub moving-all : (mask value_add : ℕ) (before now left whole : List ℕ) → left ≡ [] → Moving mask value_add before now left whole → now ≡ change_all (map (moving mask value_add 0) whole) before
-moving-all mask value_add before now left whole none state =
-    state.is ∙ ap (λ (l : List ℕ). change_all (map (moving mask value_add 0) l) before) (sym (append-nil state.done) ∙ (ap (λ (l : List ℕ). state.done ++ l) (sym none) ∙ state.parts))
-
--- the next ones are moved too
-pub moving-more : (mask value_add : ℕ) (before now after own rest left whole : List ℕ) → left ≡ own ++ rest → after ≡ change_all (map (moving mask value_add 0) own) now
-    → Moving mask value_add before now left whole → Moving mask value_add before after rest whole
-moving-more mask value_add before now after own rest left whole split is state = record {
-  done = state.done ++ own;
-  parts = append_assoc state.done own rest ∙ (ap (λ (l : List ℕ). state.done ++ l) (sym split) ∙ state.parts);
-  is = is ∙ (ap (change_all (map (moving mask value_add 0) own)) state.is ∙ sym (moved-append mask value_add 0 state.done own before));
-}
-
-AllOf-left : (P : ℕ → Type 0) (xs ys : List ℕ) → AllOf P (xs ++ ys) → AllOf P xs
-AllOf-left P [] ys all = tt
-AllOf-left P (x ∷ xs) ys all = (all.0, AllOf-left P xs ys all.1)
-
-pub AllOf-right : (P : ℕ → Type 0) (xs ys : List ℕ) → AllOf P (xs ++ ys) → AllOf P ys
-AllOf-right P [] ys all = all
-AllOf-right P (x ∷ xs) ys all = AllOf-right P xs ys all.1
-
--- one of the places before the others
-apart-skip : (xs : List ℕ) (a : ℕ) (ys : List ℕ) → AreApart (xs ++ (a ∷ ys)) → AreApart (xs ++ ys)
-apart-skip [] a ys apart = apart.1
-apart-skip (x ∷ xs) a ys apart =
-    let parts : KeepsApart x xs × KeepsApart x (a ∷ ys) = KeepsApart-append x xs (a ∷ ys) apart.0 in
-    (KeepsApart-join x xs ys parts.0 parts.1.1, apart-skip xs a ys apart.1)
-
-still : (mask value_add : ℕ) (before now done left : List ℕ) → AllOf (λ p. p + 8 ≤ length before) done → AreApart (done ++ left) → now ≡ change_all (map (moving mask value_add 0) done) before
-    → AllOf (λ a. number_at 8 now a ≡ number_at 8 before a) left
-still mask value_add before now done [] inside apart is = tt
-still mask value_add before now done (a ∷ left) inside apart is = (
-  ap (λ (b : List ℕ). number_at 8 b a) is ∙ moved-apart mask value_add 0 done before a inside (apart-before done a left apart),
-  still mask value_add before now done left inside (apart-skip done a left apart) is,
-)
-
--- those that are left have the numbers they had
-pub moving-still : (mask value_add : ℕ) (before now left whole : List ℕ) → AllOf (λ p. p + 8 ≤ length before) whole → AreApart whole → Moving mask value_add before now left whole
-    → AllOf (λ a. number_at 8 now a ≡ number_at 8 before a) left
-moving-still mask value_add before now left whole inside apart state =
-    still mask value_add before now state.done left (AllOf-left (λ p. p + 8 ≤ length before) state.done left (subst (AllOf (λ p. p + 8 ≤ length before)) (sym state.parts) inside))
-    (subst AreApart (sym state.parts) apart) state.is
-
-pub moving-apart : (mask value_add : ℕ) (before now left whole : List ℕ) → AreApart whole → Moving mask value_add before now left whole → AreApart left
-moving-apart mask value_add before now left whole apart state = apart-right state.done left (subst AreApart (sym state.parts) apart)
-
-pub moving-left : (P : ℕ → Type 0) (mask value_add : ℕ) (before now left whole : List ℕ) → AllOf P whole → Moving mask value_add before now left whole → AllOf P left
-moving-left P mask value_add before now left whole all state = AllOf-right P state.done left (subst (AllOf P) (sym state.parts) all)
+use Rattle.slide_chain.proofs.OrderLaws.{each_page-below, each_page-split}
+use Rattle.slide_chain.proofs.ApartLaws.{apart-left, filter-empty, cons_not_nil}
+use Rattle.slide_chain.proofs.MovingLaws.{Moving, moving-all, moving-more, AllOf-right, moving-still, moving-apart, moving-left, AllOf-left}
 
 -- ---- chains in data that differ elsewhere
 
@@ -162,17 +47,6 @@ chains-same mask before now last n (h ∷ hs) same =
     (chains-same mask before now last n hs (AllOf-right (λ a. number_at 8 now a ≡ number_at 8 before a) (chain mask before last n h) (flat_map (chain mask before last n) hs) same))
 
 -- ---- one chain
-
-cons_not_nil : (x : ℕ) (xs : List ℕ) → x ∷ xs ≡ [] → ⊥
-cons_not_nil x xs e = cc
-
-pub filter-empty : (p : ℕ → Bool) (xs : List ℕ) → filter p xs ≡ [] → AllOf (λ x. p x ≡ false) xs
-filter-empty p [] none = tt
-filter-empty p (x ∷ xs) none =
-    elim (cases_Bool (p x)) [
-      | inl passes ↦ absurd (cons_not_nil x (filter p xs) (sym (cond-true (p x) (x ∷ filter p xs) (filter p xs) passes) ∙ none))
-      | inr fails ↦ (fails, filter-empty p xs (sym (cond-false (p x) (x ∷ filter p xs) (filter p xs) fails) ∙ none))
-    ]
 
 -- what is known while a chain is followed
 pub record Following (mask value_add page : ℕ) (before now : List ℕ) (head at n : ℕ) : Type 0 where
@@ -491,107 +365,3 @@ unfolding each_page
 pages-over mask value_add extras starts before now i past state =
     moving-all mask value_add before now (each_page (page_reached mask extras before) (i * 4096) (drop i starts)) (each_page (page_reached mask extras before) 0 starts)
     (ap (each_page (page_reached mask extras before) (i * 4096)) (drop_all i starts past)) state
-
--- ---- from what was found
-
-abbrev near : ℕ → ℕ → Bool
-near a b = nat_le a b && nat_lt b (a + 8)
-
--- at most one word begins in the eight bytes from each place on
-abbrev Lonely : List ℕ → List ℕ → Type 0
-Lonely whole xs = AllOf (λ a. nat_lt 1 (length (filter (near a) whole)) ≡ false) xs
-
-near-itself : (a : ℕ) → near a a ≡ true
-near-itself a = ap₂ (λ (x y : Bool). x && y) (le-leb a a (omega arith)) (lt-ltb a (a + 8) (omega arith))
-
-filter-grows : (p : ℕ → Bool) (x : ℕ) (xs : List ℕ) → length (filter p xs) ≤ length (filter p (x ∷ xs))
-filter-grows p x xs = elim (p x) as (λ b. length (filter p xs) ≤ length (cond b (x ∷ filter p xs) (filter p xs))) [ true ↦ omega arith | false ↦ omega arith ]
-
--- a place that is there counts itself
-filter-there : (p : ℕ → Bool) (a : ℕ) (xs : List ℕ) → p a ≡ true → list_any (nat_eq a) xs ≡ true → 1 ≤ length (filter p xs)
-filter-there p a [] passes there = absurd (false≢true there)
-filter-there p a (x ∷ xs) passes there =
-    elim (cases_eq a x) [
-      | inl same ↦
-          let grown : filter p (x ∷ xs) ≡ x ∷ filter p xs = cond-true (p x) (x ∷ filter p xs) (filter p xs) (ap p (sym same) ∙ passes) in
-          omega (arith, ap (λ (l : List ℕ). length l) grown)
-      | inr other ↦ omega (arith, filter-grows p x xs, filter-there p a xs passes (ap (λ (b : Bool). b || list_any (nat_eq a) xs) (sym (ne_eqb a x other)) ∙ there))
-    ]
-
-apart-of : (a p : ℕ) → near a p ≡ false → near p a ≡ false → (a + 8 ≤ p) ⊎ (p + 8 ≤ a)
-apart-of a p left right =
-    elim (cases_lt p a) [
-      | inl before ↦ elim (and_cases (nat_le p a) (nat_lt a (p + 8)) right) [
-        | inl above ↦ absurd (omega (arith, before, leb-false p a above))
-        | inr far ↦ inr (ltb-false a (p + 8) far)
-      ]
-      | inr behind ↦ elim (and_cases (nat_le a p) (nat_lt p (a + 8)) left) [
-        | inl above ↦ absurd (omega (arith, behind, leb-false a p above))
-        | inr far ↦ inl (ltb-false p (a + 8) far)
-      ]
-    ]
-
--- the first place keeps apart from those behind it
-lonely-first : (a : ℕ) (rest xs : List ℕ) → nat_lt 1 (length (filter (near a) (a ∷ rest))) ≡ false → Lonely (a ∷ rest) xs → ((x : ℕ) → list_any (nat_eq x) xs ≡ true → list_any (nat_eq x) rest ≡ true) → KeepsApart a xs
-lonely-first a rest [] alone lonely among = tt
-lonely-first a rest (p ∷ xs) alone lonely among =
-    let there : list_any (nat_eq p) rest ≡ true = among p (ap (λ (b : Bool). b || list_any (nat_eq p) xs) (eq-eqb p p refl)) in
-    let first : filter (near a) (a ∷ rest) ≡ a ∷ filter (near a) rest = cond-true (near a a) (a ∷ filter (near a) rest) (filter (near a) rest) (near-itself a) in
-    let few : length (filter (near a) (a ∷ rest)) ≤ 1 = ltb-false 1 (length (filter (near a) (a ∷ rest))) alone in
-    let left : near a p ≡ false =
-    elim (cases_Bool (near a p)) [
-      | inl passes ↦ absurd (omega (arith, few, ap (λ (l : List ℕ). length l) first, filter-there (near a) p rest passes there))
-      | inr fails ↦ fails
-    ] in
-    let few_p : length (filter (near p) (a ∷ rest)) ≤ 1 = ltb-false 1 (length (filter (near p) (a ∷ rest))) lonely.0 in
-    let right : near p a ≡ false =
-    elim (cases_Bool (near p a)) [
-      | inl passes ↦
-          let grown : filter (near p) (a ∷ rest) ≡ a ∷ filter (near p) rest = cond-true (near p a) (a ∷ filter (near p) rest) (filter (near p) rest) passes in
-          absurd (omega (arith, few_p, ap (λ (l : List ℕ). length l) grown, filter-there (near p) p rest (near-itself p) there))
-      | inr fails ↦ fails
-    ] in
-    (apart-of a p left right, lonely-first a rest xs alone lonely.1 (λ x at. among x (or_right (nat_eq x p) (list_any (nat_eq x) xs) at)))
-
-lonely-apart : (xs : List ℕ) → Lonely xs xs → AreApart xs
-lonely-apart [] lonely = tt
-lonely-apart (a ∷ rest) lonely = (
-  lonely-first a rest rest lonely.0 lonely.1 (λ x at. at),
-  lonely-apart rest (AllOf-map (λ p. nat_lt 1 (length (filter (near p) (a ∷ rest))) ≡ false) (λ p. nat_lt 1 (length (filter (near p) rest)) ≡ false) rest
-      (λ p alone. le-ltb 1 (length (filter (near p) rest)) (omega (arith, filter-grows (near p) a rest, ltb-false 1 (length (filter (near p) (a ∷ rest))) alone))) lonely.1),
-)
-
-pub none-overlap : (xs : List ℕ) → overlapping xs ≡ [] → AreApart xs
-unfolding overlapping
-none-overlap xs none = lonely-apart xs (filter-empty (λ a. nat_lt 1 (length (filter (near a) xs))) xs none)
-
-some_not_none : {A : Type 0} {x : A} → Some x ≡ None → ⊥
-some_not_none {A} {x} e = cc
-
-found-two : (leaves overlap : Option ℕ) → found ChainLeavesPage leaves (found ChainsOverlap overlap None) ≡ None → (leaves ≡ None) × (overlap ≡ None)
-found-two (Some n) overlap none = absurd (some_not_none none)
-found-two None (Some n) none = absurd (some_not_none none)
-found-two None None none = (refl, refl)
-
-least-none : (xs : List ℕ) → least xs ≡ None → xs ≡ []
-unfolding least
-least-none [] none = refl
-least-none (x ∷ xs) none = absurd (some_not_none none)
-
--- nothing found means nothing to be found
-pub found-none : (ends : Option ℕ) (leaving overlap : List ℕ) → found ExtrasEnd ends (found ChainLeavesPage (least leaving) (found ChainsOverlap (least overlap) None)) ≡ None → (leaving ≡ []) × (overlap ≡ [])
-found-none (Some n) leaving overlap none = absurd (some_not_none none)
-found-none None leaving overlap none =
-    let parts : (least leaving ≡ None) × (least overlap ≡ None) = found-two (least leaving) (least overlap) none in
-    (least-none leaving parts.0, least-none overlap parts.1)
-
--- what data without a finding have
-pub record IsSound (s : Slide) (area : List ℕ) : Type 0 where
-  pub stays : each_page (page_leaving s.mask s.extras area) 0 s.starts ≡ []
-  pub apart : AreApart (each_page (page_reached s.mask s.extras area) 0 s.starts)
-
-pub is-sound : (s : Slide) (area : List ℕ) → chain_finding s area ≡ None → IsSound s area
-unfolding chain_finding leaving reached
-is-sound s area none =
-    let parts : (leaving s area ≡ []) × (overlapping (reached s area) ≡ []) = found-none (endless_page s.extras 0 s.starts) (leaving s area) (overlapping (reached s area)) none in
-    record { stays = parts.0; apart = none-overlap (reached s area) parts.1 }

@@ -1,15 +1,16 @@
 -- What the writer's callers owe says of its loop and of what it leaves.
-use Rattle.std.proofs.Common.{◌≡◌, ◌<◌, ◌≤◌, ℕ, ◌+◌, ◌-◌, ◌*◌, ◌/◌, ◌%◌, ◌^◌, List, length, drop, get_or, sym, ap, subst, refl, ◌∙◌}
+use Rattle.std.proofs.Common.{◌≡◌, ◌<◌, ◌≤◌, ℕ, ◌+◌, ◌-◌, ◌*◌, ◌/◌, ◌%◌, ◌^◌, List, length, drop, get_or, sym, ap, ap₂, map, subst, refl, ◌∙◌}
 use Rattle.std.specs.Prelude.{None}
 use Rattle.dsc_base.specs.Numbers.{number_at}
 use Rattle.dsc_base.specs.Edits.{change_all}
 use Rattle.dsc_base.proofs.NumberLaws.{number_at-lt}
-use Rattle.slide_chain.specs.Chains.{Slide, chain_words, chain_finding}
-use Rattle.slide_chain.specs.Making.{step_to, linking, info_of, AreWords, AllBelow, AreOutside, IsMade, given}
+use Rattle.slide_chain.specs.Chains.{Slide, chain_words, chain_finding, slid_area}
+use Rattle.slide_chain.specs.Making.{step_to, linking, info_of, AreWords, AllBelow, AreOutside, IsMade, given, raising}
 use Rattle.slide_chain.proofs.WordLaws.{Written, written}
 use Rattle.slide_chain.proofs.MadeLaws.{step_to-le}
 use Rattle.slide_chain.proofs.LinkLaws.{IsLinkable, limit_back, chain_words-made}
 use Rattle.slide_chain.proofs.ListLaws.{outside-at}
+use Rattle.slide_chain.proofs.MappedLaws.{slid-linked}
 use Rattle.slide_chain.proofs.SoundLaws.{chains-sound}
 
 pub made-mask : (s : Slide) (size : ℕ) (ws : List ℕ) (made : IsMade s size ws) → s.mask ≡ (2 ^ made.bits - 1) * 2 ^ 48
@@ -35,6 +36,7 @@ step-fits s size area ws i made bytes within outside =
 pub record WritesBack (s : Slide) (area after ws : List ℕ) : Type 0 where
   pub back : chain_words s after ≡ given area ws
   pub sound : chain_finding s after ≡ None
+  pub slid : (slide : ℕ) → slid_area s slide after ≡ change_all (map (raising slide) ws) area
 
 pub writes-back : (s : Slide) (area after ws : List ℕ) → IsMade s (length area) ws → ((k : ℕ) → get_or area k 0 < 256) → length area % 4096 ≡ 0 → AreWords 0 ws → AllBelow (length area) ws
     → AreOutside s.mask area ws → length after ≡ length area → after ≡ change_all (linking (s.mask / 2 ^ 48) ws) area → WritesBack s area after ws
@@ -55,4 +57,5 @@ writes-back s area after ws made bytes even words below outside long is =
     record {
       back = ap (λ (t : Slide). chain_words t after) made.made ∙ chain_words-made made.bits (length area) area after ws fit few is_linked long;
       sound = ap (λ (t : Slide). chain_finding t after) made.made ∙ chains-sound made.bits (length area) area after ws fit few is_linked;
+      slid = λ slide. ap₂ (λ (t : Slide) (l : List ℕ). slid_area t slide l) made.made is_linked ∙ slid-linked made.bits (length area) slide area ws fit few;
     }

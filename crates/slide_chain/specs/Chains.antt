@@ -18,6 +18,10 @@ pub record Slide : Type 0 where
   pub starts : List ℕ
   pub extras : List ℕ
 
+-- the same by its parts
+abbrev pub slide_of : ℕ → ℕ → List ℕ → List ℕ → Slide
+slide_of mask value_add starts extras = record { mask = mask; value_add = value_add; starts = starts; extras = extras }
+
 -- ---- one word
 
 -- how many bytes the next word of the chain is away: the mask's bits count in units of four

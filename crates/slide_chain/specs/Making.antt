@@ -113,6 +113,10 @@ unfoldable pub given : List ℕ → List ℕ → List ChainWord
 given area [] = []
 given area (a ∷ words) = if nat_eq (number_at 8 area a) 0 then given area words else record { offset = a; value = number_at 8 area a } ∷ given area words
 
+-- what a slide does to the number of a word that was given: 0 stays 0
+abbrev pub raising : ℕ → ℕ → Change
+raising slide at = record { at = at; width = 8; becomes = λ v. if nat_eq v 0 then 0 else (v + slide) % 2 ^ 64 }
+
 -- why no information was made: too many extras, of which it tells the number, or want of memory
 abbrev pub MakeCause : ℕ → ℕ → List ℕ → Fault → Type 0
 MakeCause bits size words (Broken site) = (site ≡ record { rule = TooManyExtras; at = length (info_of bits size words).extras }) × (0x4000 < length (info_of bits size words).extras)

@@ -19,9 +19,13 @@ pub(crate) fn gather(
 ) -> Result<Option<usize>, NoMemory>
     requires places { length marks.now ≡ 1023 }
     requires inside { page + 4096 ≤ length area.now }
-    ensures overlaps { IfOk result (λ o. IfSome o (λ at. (places : List ℕ) → AreCounted marks.now page places → least (overlapping places) ≡ Some at)) }
-    ensures apart { IfOk result (λ o. IfNone o ((places : List ℕ) → AreCounted marks.now page places → overlapping places ≡ [])) }
-    ensures words { IfOk result (λ o. IfNone o ((places : List ℕ) → AreCounted marks.now page places → words.new.items ≡ words.old.items ++ words_at mask value_add area.now (in_order places 1024 page))) }
+    ensures overlaps { IfOk result (λ o. IfSome o (λ at. (places : List ℕ) → AreCounted marks.now page places
+        → least (overlapping places) ≡ Some at)) }
+    ensures apart { IfOk result (λ o. IfNone o ((places : List ℕ) → AreCounted marks.now page places
+        → overlapping places ≡ [])) }
+    ensures words { IfOk result (λ o. IfNone o ((places : List ℕ) → AreCounted marks.now page places
+        → words.new.items
+        ≡ words.old.items ++ words_at mask value_add area.now (in_order places 1024 page))) }
 {
     for k in 0..PLACES {
         if overlaps(marks, k) {
@@ -38,7 +42,8 @@ pub(crate) fn gather(
 fn overlaps(marks: &[u64], k: usize) -> bool
     requires places { length marks.now ≡ 1023 }
     requires within { k < 1023 }
-    ensures { result ≡ (nat_lt 0 (slice_index marks.now k) && nat_lt 1 (slice_index marks.now k + slice_index marks.now (k + 1))) }
+    ensures { result ≡ (nat_lt 0 (slice_index marks.now k)
+        && nat_lt 1 (slice_index marks.now k + slice_index marks.now (k + 1))) }
 {
     marks[k] > 1 || marks[k] == 1 && k + 1 < PLACES && marks[k + 1] > 0
 }
@@ -52,7 +57,8 @@ fn push_word(
     words: &mut Vec<ChainWord>,
 ) -> Result<(), NoMemory>
     requires { at + 8 ≤ length area.now }
-    ensures { OnOk result (words.new.items ≡ words.old.items ++ words_at mask value_add area.now (at ∷ [])) }
+    ensures { OnOk result (words.new.items ≡ words.old.items
+        ++ words_at mask value_add area.now (at ∷ [])) }
 {
     let value = get_u64(area, at) & !mask;
     if value != 0 {

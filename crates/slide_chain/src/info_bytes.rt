@@ -1,7 +1,7 @@
 // Slide information as bytes.
 ghost use Rattle.std.specs.Prelude.{◌≡◌, ◌+◌, ◌*◌, ◌^◌, ◌<◌, ◌≤◌, List, [], ◌∷◌, ◌++◌, Option, None, length, IfOk, OnOk, IfErr};
 ghost use Rattle.dsc_base.specs.Numbers.{little_bytes};
-ghost use Rattle.slide_chain.specs.Chains.{Slide, IsRun};
+ghost use Rattle.slide_chain.specs.Chains.{Slide, slide_of, IsRun};
 ghost use Rattle.slide_chain.specs.Info.{halves, info_bytes, info_read, info_finding};
 
 use crate::SlideInfo;
@@ -15,7 +15,8 @@ pub fn slide_info_bytes(alloc: Global, info: &SlideInfo) -> Result<Vec<u8>, NoMe
     requires extras { length info.now.extras < 2 ^ 30 }
     ensures bytes { IfOk result (λ v. v.items ≡ info_bytes info.now) }
     ensures back { IfOk result (λ v. info_read v.items ≡ info.now) }
-    ensures sound { IfOk result (λ v. IsRun info.now.mask → info_finding (length info.now.starts * 4096) v.items ≡ None) }
+    ensures sound { IfOk result (λ v. IsRun info.now.mask
+        → info_finding (length info.now.starts * 4096) v.items ≡ None) }
 {
     let bytes = spell(alloc, info.mask, info.value_add, &info.starts, &info.extras)?;
     Ok(bytes)
@@ -30,8 +31,8 @@ fn spell(
 ) -> Result<Vec<u8>, NoMemory>
     requires starts { length starts.now < 2 ^ 30 }
     requires extras { length extras.now < 2 ^ 30 }
-    ensures bytes { IfOk result (λ v. v.items ≡ info_bytes (record { mask = mask; value_add = value_add; starts = starts.now; extras = extras.now })) }
-    ensures back { IfOk result (λ v. info_read v.items ≡ record { mask = mask; value_add = value_add; starts = starts.now; extras = extras.now }) }
+    ensures bytes { IfOk result (λ v. v.items ≡ info_bytes (slide_of mask value_add starts.now extras.now)) }
+    ensures back { IfOk result (λ v. info_read v.items ≡ slide_of mask value_add starts.now extras.now) }
     ensures sound { IfOk result (λ v. IsRun mask → info_finding (length starts.now * 4096) v.items ≡ None) }
 {
     let count = starts.len() as u32;

@@ -8,7 +8,9 @@ mod info_bytes;
 mod info_read;
 mod making;
 mod reading;
+mod runs;
 mod sieve;
+mod thinning;
 mod unsliding;
 mod words;
 mod writing;
@@ -20,3 +22,6 @@ pub use reading::read_chains;
 pub use unsliding::unslide;
 pub use words::{ChainWord, SlideInfo, slide_word};
 pub use writing::write_chains;
+
+#[cfg(test)]
+mod tests;

@@ -55,7 +55,8 @@ fn link_pages(
     requires room { pages ≤ 0x20000 }
     requires words { AreWords 0 words.now }
     ensures extras { IfOk result (λ r. r.1.items ≡ extras_of (page_firsts limit 0 pages words.now)) }
-    ensures starts { IfOk result (λ r. length r.1.items ≤ 0x4000 → r.0.items ≡ starts_of 0 (page_firsts limit 0 pages words.now)) }
+    ensures starts { IfOk result (λ r. length r.1.items ≤ 0x4000
+        → r.0.items ≡ starts_of 0 (page_firsts limit 0 pages words.now)) }
 {
     let mut starts = Vec::with_capacity(alloc, pages as usize)?;
     let mut extras = Vec::new(alloc);
@@ -103,7 +104,8 @@ fn find_firsts(words: &[u64], limit: u64, found: &mut Vec<u64>) -> Result<(), No
 fn is_first(words: &[u64], i: usize, limit: u64) -> bool
     requires within { i < length words.now }
     requires words { AreWords 0 words.now }
-    ensures { result ≡ (nat_eq i 0 || nat_eq (step limit (slice_index words.now (i - 1)) (slice_index words.now i)) 0) }
+    ensures { result ≡ (nat_eq i 0
+        || nat_eq (step limit (slice_index words.now (i - 1)) (slice_index words.now i)) 0) }
 {
     i == 0 || step_between(words[i - 1], words[i], limit) == 0
 }

@@ -47,7 +47,8 @@ pub(crate) fn sift_page(
 fn count_heads(marks: &mut [u64], extras: &[u16], start: u16) -> bool
     requires places { length marks.old ≡ 1023 }
     ensures counted { result ≡ true → (page : ℕ) → AreCounted marks.new page (heads extras.now page start) }
-    ensures outside { result ≡ false → (page : ℕ) → list_any (nat_lt (page + 0xFF8)) (heads extras.now page start) ≡ true }
+    ensures outside { result ≡ false → (page : ℕ) → list_any (nat_lt (page + 0xFF8)) (heads extras.now page start)
+        ≡ true }
     ensures few { result ≡ true → counted (λ k. 1) marks.new 0 1023 < 2 ^ 64 }
 {
     marks.fill(0);
@@ -88,7 +89,8 @@ fn count_run(marks: &mut [u64], extras: &[u16]) -> bool
     requires places { length marks.old ≡ 1023 }
     requires empty { (f : ℕ → ℕ) → counted f marks.old 0 1023 ≡ 0 }
     ensures counted { result ≡ true → (page : ℕ) → AreCounted marks.new page (extra_heads page extras.now) }
-    ensures outside { result ≡ false → (page : ℕ) → list_any (nat_lt (page + 0xFF8)) (extra_heads page extras.now) ≡ true }
+    ensures outside { result ≡ false → (page : ℕ) → list_any (nat_lt (page + 0xFF8)) (extra_heads page extras.now)
+        ≡ true }
     ensures few { result ≡ true → counted (λ k. 1) marks.new 0 1023 < 2 ^ 64 }
 {
     for extra in extras {
@@ -109,9 +111,13 @@ fn sift(marks: &mut [u64], area: &[u8], mask: u64, page: usize) -> Option<usize>
     requires inside { page + 4096 ≤ length area.now }
     requires run { IsRun mask }
     requires room { counted (λ k. 1) marks.old 0 1023 < 2 ^ 64 }
-    ensures counted { IfNone result ((places : List ℕ) → AreCounted marks.old page places → AreCounted marks.new page (flat_map (chain mask area.now (page + 0xFF8) 1024) places)) }
-    ensures stays { IfNone result ((k : ℕ) → k < 1023 → 0 < slice_index marks.new k → page + k * 4 + delta_of mask (number_at 8 area.now (page + k * 4)) ≤ page + 0xFF8) }
-    ensures leaves { IfSome result (λ at. (places : List ℕ) → AreCounted marks.old page places → least (filter (λ a. nat_lt (page + 0xFF8) (a + delta_of mask (number_at 8 area.now a))) (flat_map (chain mask area.now (page + 0xFF8) 1024) places)) ≡ Some at) }
+    ensures counted { IfNone result ((places : List ℕ) → AreCounted marks.old page places
+        → AreCounted marks.new page (flat_map (chain mask area.now (page + 0xFF8) 1024) places)) }
+    ensures stays { IfNone result ((k : ℕ) → k < 1023 → 0 < slice_index marks.new k
+        → page + k * 4 + delta_of mask (number_at 8 area.now (page + k * 4)) ≤ page + 0xFF8) }
+    ensures leaves { IfSome result (λ at. (places : List ℕ) → AreCounted marks.old page places
+        → least (filter (λ a. nat_lt (page + 0xFF8) (a + delta_of mask (number_at 8 area.now a)))
+        (flat_map (chain mask area.now (page + 0xFF8) 1024) places)) ≡ Some at) }
 {
     for k in 0..PLACES {
         if !follow(marks, area, mask, page, k) {
@@ -129,7 +135,9 @@ fn follow(marks: &mut [u64], area: &[u8], mask: u64, page: usize, k: usize) -> b
     requires inside { page + 4096 ≤ length area.now }
     requires run { IsRun mask }
     requires room { counted (λ j. 1) marks.old k (1023 - k) < 2 ^ 64 }
-    ensures stays { result ≡ (nat_eq (slice_index marks.old k) 0 || nat_le (page + k * 4 + delta_of mask (number_at 8 area.now (page + k * 4))) (page + 0xFF8)) }
+    ensures stays { result ≡ (nat_eq (slice_index marks.old k) 0
+        || nat_le (page + k * 4 + delta_of mask (number_at 8 area.now (page + k * 4)))
+        (page + 0xFF8)) }
     ensures counts { result ≡ true → marks.new ≡ followed mask area.now page k marks.old }
 {
     let count = marks[k];

@@ -1,9 +1,9 @@
 // Linking the words of the data.
-ghost use Rattle.std.specs.Prelude.{◌≡◌, ◌+◌, ◌-◌, ◌*◌, ◌/◌, ◌%◌, ◌^◌, ◌<◌, ◌≤◌, Option, None, length, drop, slice_index};
+ghost use Rattle.std.specs.Prelude.{◌≡◌, ℕ, List, map, ◌+◌, ◌-◌, ◌*◌, ◌/◌, ◌%◌, ◌^◌, ◌<◌, ◌≤◌, Option, None, length, drop, slice_index};
 ghost use Rattle.dsc_base.specs.Numbers.{number_at, put_number};
 ghost use Rattle.dsc_base.specs.Edits.{change_all};
-ghost use Rattle.slide_chain.specs.Chains.{Slide, chain_words, chain_finding};
-ghost use Rattle.slide_chain.specs.Making.{step, step_to, linking, AreWords, AllBelow, AreOutside, IsMade, given};
+ghost use Rattle.slide_chain.specs.Chains.{Slide, chain_words, chain_finding, slid_area};
+ghost use Rattle.slide_chain.specs.Making.{step, step_to, linking, AreWords, AllBelow, AreOutside, IsMade, given, raising};
 
 use crate::SlideInfo;
 use dsc_base::{get_u64, put_u64};
@@ -21,6 +21,8 @@ pub fn write_chains(area: &mut [u8], words: &[u64], info: &SlideInfo, jobs: u32)
     ensures links { area.new ≡ change_all (linking (info.now.mask / 2 ^ 48) words.now) area.old }
     ensures back { chain_words info.now area.new ≡ given area.old words.now }
     ensures sound { chain_finding info.now area.new ≡ None }
+    ensures slid { (slide : ℕ) → slid_area info.now slide area.new
+        ≡ change_all (map (raising slide) words.now) area.old }
 {
     let limit = info.mask >> 48;
     for (i, word) in words.iter().enumerate() {

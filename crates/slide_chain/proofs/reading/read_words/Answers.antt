@@ -1,35 +1,50 @@
--- What is wrong with the runs of extras goes first, then what the walk has found.
-use Rattle.std.proofs.Common.{◌≡◌, ◌∙◌, ◌/◌, ℕ, length, sym, ap, subst}
-use Rattle.std.specs.Prelude.{Option, Some, None, IfNone}
+-- What is wrong with the runs of extras goes first, then a chain that leaves its page, then words that overlap.
+use Rattle.std.proofs.Common.{◌≡◌, ◌∙◌, List, ℕ, sym, ap, subst}
+use Rattle.std.specs.Prelude.{Some, None}
 use Rattle.dsc_base.specs.declared.fault.Finding.{Finding}
-use Rattle.dsc_base.specs.declared.finding_kind.FindingKind.TheVariants.{ExtrasEnd, ChainLeavesPage, ChainsOverlap}
-use Rattle.slide_chain.specs.Chains.{page_reached, page_leaving, each_page, reached, leaving, overlapping, least, found, endless_page, chain_words, chain_finding, words_at, in_order}
+use Rattle.slide_chain.specs.Chains.{Slide, slide_of, leaving, least}
+use Rattle.slide_chain.specs.declared.reading.Walk.TheVariants.{Sound, Leaves, Overlaps}
+use Rattle.slide_chain.specs.Reading.{WalkIs, SameHeads}
+use Rattle.slide_chain.proofs.FindingLaws.{finding-ends, finding-leaves, finding-overlaps, finding-none, least-leaving}
 use Rattle.slide_chain.proofs.reading.read_words.Goals as goal
 
 pub returns-in-Some-clause-cause : goal.returns-in-Some-clause-cause
-unfolding chain_finding leaving reached
 returns-in-Some-clause-cause c =
-    ap (λ (o : Option ℕ). found ExtrasEnd o (found ChainLeavesPage (least (each_page (page_leaving c.args.mask c.args.extras.now c.args.area.now) 0 c.args.starts.now))
-    (found ChainsOverlap (least (overlapping (each_page (page_reached c.args.mask c.args.extras.now c.args.area.now) 0 c.args.starts.now))) None))) (sym c.endless_page.ensures ∙ c.in-Some.is)
-    ∙ ap (λ (f : Finding). Some f) (sym c.finding.ensures)
+    let s : Slide = slide_of c.args.mask c.args.value_add c.args.starts.now c.args.extras.now in
+    finding-ends s c.args.area.now c.in-Some.page (sym c.endless_page.ensures ∙ c.in-Some.is) ∙ ap (λ (f : Finding). Some f) (sym c.finding.ensures)
 
-pub returns-in-Some-2-clause-cause : goal.returns-in-Some-2-clause-cause
-unfolding chain_finding leaving reached
-returns-in-Some-2-clause-cause c =
-    let ends : endless_page c.args.extras.now 0 c.args.starts.now ≡ None = sym c.endless_page.ensures ∙ c.in_default.is in
-    ap (λ (o : Option ℕ). found ExtrasEnd o (found ChainLeavesPage (least (each_page (page_leaving c.args.mask c.args.extras.now c.args.area.now) 0 c.args.starts.now))
-    (found ChainsOverlap (least (overlapping (each_page (page_reached c.args.mask c.args.extras.now c.args.area.now) 0 c.args.starts.now))) None))) ends
-    ∙ (sym c.in_ok-finding.ensures.finding ∙ c.in-Some-2.is)
+pub returns-in-Sound-clause-sound : goal.returns-in-Sound-clause-sound
+returns-in-Sound-clause-sound c =
+    let s : Slide = slide_of c.args.mask c.args.value_add c.args.starts.now c.args.extras.now in
+    let walked : WalkIs (slide_of c.args.mask c.args.value_add c.args.starts.now c.args.extras.now) c.args.area.now c.read_pages.new.words.items Sound =
+    subst (WalkIs (slide_of c.args.mask c.args.value_add c.args.starts.now c.args.extras.now) c.args.area.now c.read_pages.new.words.items) c.in-Sound.is (c.in_ok-read_pages.ensures {u = tt}) in
+    finding-none s c.args.area.now (sym c.endless_page.ensures ∙ c.in_default.is) walked.0 walked.1
 
-pub returns-in-None-clause-words : goal.returns-in-None-clause-words
-unfolding chain_words reached
-returns-in-None-clause-words c = subst (λ (o : Option Finding). IfNone o (c.walk.new.words.items ≡ words_at c.args.mask c.args.value_add c.args.area.now (in_order (each_page (page_reached c.args.mask c.args.extras.now c.args.area.now) 0 c.args.starts.now) (length c.args.area.now / 4) 0)))
-    c.in-None.is c.in_ok-finding.ensures.words
+pub returns-in-Leaves-clause-cause : goal.returns-in-Leaves-clause-cause
+returns-in-Leaves-clause-cause c =
+    let s : Slide = slide_of c.args.mask c.args.value_add c.args.starts.now c.args.extras.now in
+    let walked : WalkIs (slide_of c.args.mask c.args.value_add c.args.starts.now c.args.extras.now) c.args.area.now c.read_pages.new.words.items (Leaves c.in-Leaves.at) =
+    subst (WalkIs (slide_of c.args.mask c.args.value_add c.args.starts.now c.args.extras.now) c.args.area.now c.read_pages.new.words.items) c.in-Leaves.is (c.in_ok-read_pages.ensures {u = tt}) in
+    finding-leaves s c.args.area.now c.in-Leaves.at (sym c.endless_page.ensures ∙ c.in_default.is) walked ∙ ap (λ (f : Finding). Some f) (sym c.finding-in-Leaves.ensures)
 
-pub returns-in-None-clause-sound : goal.returns-in-None-clause-sound
-unfolding chain_finding leaving reached
-returns-in-None-clause-sound c =
-    let ends : endless_page c.args.extras.now 0 c.args.starts.now ≡ None = sym c.endless_page.ensures ∙ c.in_default.is in
-    ap (λ (o : Option ℕ). found ExtrasEnd o (found ChainLeavesPage (least (each_page (page_leaving c.args.mask c.args.extras.now c.args.area.now) 0 c.args.starts.now))
-    (found ChainsOverlap (least (overlapping (each_page (page_reached c.args.mask c.args.extras.now c.args.area.now) 0 c.args.starts.now))) None))) ends
-    ∙ (sym c.in_ok-finding.ensures.finding ∙ c.in-None.is)
+pub returns-in-Some-first_leaving-clause-cause : goal.returns-in-Some-first_leaving-clause-cause
+returns-in-Some-first_leaving-clause-cause c =
+    let s : Slide = slide_of c.args.mask c.args.value_add c.args.starts.now c.args.extras.now in
+    let same : SameHeads c.args.starts.now c.args.extras.now c.deref.result.now c.deref-in-Overlaps.result.now =
+    subst (λ (l : List ℕ). SameHeads c.args.starts.now c.args.extras.now l c.deref-in-Overlaps.result.now) (sym c.deref.ensures.value)
+    (subst (λ (l : List ℕ). SameHeads c.args.starts.now c.args.extras.now c.in_ok-few_starts-in-Overlaps.few_starts.items l) (sym c.deref-in-Overlaps.ensures.value) (c.in_ok-few_starts-in-Overlaps.ensures {u = tt})) in
+    let leaves : least (leaving (slide_of c.args.mask c.args.value_add c.args.starts.now c.args.extras.now) c.args.area.now) ≡ Some c.in-Some-first_leaving.leaves =
+    sym (least-leaving c.args.mask c.args.value_add c.args.starts.now c.args.extras.now c.deref.result.now c.deref-in-Overlaps.result.now c.args.area.now same) ∙ sym c.first_leaving.ensures ∙ c.in-Some-first_leaving.is in
+    finding-leaves s c.args.area.now c.in-Some-first_leaving.leaves (sym c.endless_page.ensures ∙ c.in_default.is) leaves ∙ ap (λ (f : Finding). Some f) (sym c.finding-in-Some-first_leaving.ensures)
+
+pub returns-clause-cause : goal.returns-clause-cause
+returns-clause-cause c =
+    let s : Slide = slide_of c.args.mask c.args.value_add c.args.starts.now c.args.extras.now in
+    let same : SameHeads c.args.starts.now c.args.extras.now c.deref.result.now c.deref-in-Overlaps.result.now =
+    subst (λ (l : List ℕ). SameHeads c.args.starts.now c.args.extras.now l c.deref-in-Overlaps.result.now) (sym c.deref.ensures.value)
+    (subst (λ (l : List ℕ). SameHeads c.args.starts.now c.args.extras.now c.in_ok-few_starts-in-Overlaps.few_starts.items l) (sym c.deref-in-Overlaps.ensures.value) (c.in_ok-few_starts-in-Overlaps.ensures {u = tt})) in
+    let stays : least (leaving (slide_of c.args.mask c.args.value_add c.args.starts.now c.args.extras.now) c.args.area.now) ≡ None =
+    sym (least-leaving c.args.mask c.args.value_add c.args.starts.now c.args.extras.now c.deref.result.now c.deref-in-Overlaps.result.now c.args.area.now same) ∙ sym c.first_leaving.ensures ∙ c.in-None.is in
+    let walked : WalkIs (slide_of c.args.mask c.args.value_add c.args.starts.now c.args.extras.now) c.args.area.now c.read_pages.new.words.items (Overlaps c.in-Overlaps.at) =
+    subst (WalkIs (slide_of c.args.mask c.args.value_add c.args.starts.now c.args.extras.now) c.args.area.now c.read_pages.new.words.items) c.in-Overlaps.is (c.in_ok-read_pages.ensures {u = tt}) in
+    finding-overlaps s c.args.area.now c.in-Overlaps.at (sym c.endless_page.ensures ∙ c.in_default.is) stays walked ∙ ap (λ (f : Finding). Some f) (sym c.finding-in-None.ensures)

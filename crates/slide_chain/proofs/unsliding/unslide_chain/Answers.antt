@@ -2,7 +2,8 @@
 use Rattle.std.proofs.Common.{◌≡◌, ◌∙◌, ◌+◌, ◌-◌, ℕ, sym, ap, arith}
 use Rattle.dsc_base.specs.Numbers.{number_at, put_number}
 use Rattle.slide_chain.specs.Chains.{delta_of, moved, chain}
-use Rattle.slide_chain.proofs.SlideLaws.{ChainFits, WordAt, moving-none, following-word, following-more, following-ends, following-over}
+use Rattle.slide_chain.proofs.MovingLaws.{moving-none}
+use Rattle.slide_chain.proofs.SlideLaws.{ChainFits, WordAt, following-word, following-more, following-ends, following-over}
 use Rattle.slide_chain.proofs.unsliding.unslide_chain.Goals as goal
 
 pub loop-step-init : goal.loop-step-init

@@ -1,6 +1,8 @@
 -- Each turn sets the words of one page.
 use Rattle.slide_chain.specs.Chains.{page_reached, each_page, reached, slid_area}
-use Rattle.slide_chain.proofs.SlideLaws.{pages-fit, page-fits, pages-more, pages-over, moving-none, is-sound}
+use Rattle.slide_chain.proofs.ApartLaws.{is-sound}
+use Rattle.slide_chain.proofs.MovingLaws.{moving-none}
+use Rattle.slide_chain.proofs.SlideLaws.{pages-fit, page-fits, pages-more, pages-over}
 use Rattle.slide_chain.proofs.unsliding.unslide_pages.Goals as goal
 
 pub loop-i-init : goal.loop-i-init

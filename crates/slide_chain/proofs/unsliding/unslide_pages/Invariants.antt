@@ -1,6 +1,6 @@
 use Rattle.std.proofs.Common.{◌*◌, drop}
 use Rattle.slide_chain.specs.Chains.{page_reached, each_page}
-use Rattle.slide_chain.proofs.SlideLaws.{Moving}
+use Rattle.slide_chain.proofs.MovingLaws.{Moving}
 use Rattle.slide_chain.proofs.unsliding.unslide_pages.Given as goal
 
 -- the words of the pages passed were set, and the others are as they were

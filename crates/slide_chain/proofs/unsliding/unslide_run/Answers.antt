@@ -3,7 +3,9 @@ use Rattle.std.specs.Prelude.{nat_lt}
 use Rattle.std.specs.List.{flat_map}
 use Rattle.slide_chain.specs.Chains.{chain, extra_heads}
 use Rattle.slide_chain.proofs.MadeLaws.{marked-large, marked-small}
-use Rattle.slide_chain.proofs.SlideLaws.{words-fit, filter-empty, moving-none, running-fits, running-head, running-more, running-ends, running-over}
+use Rattle.slide_chain.proofs.MovingLaws.{moving-none}
+use Rattle.slide_chain.proofs.ApartLaws.{filter-empty}
+use Rattle.slide_chain.proofs.SlideLaws.{words-fit, running-fits, running-head, running-more, running-ends, running-over}
 use Rattle.slide_chain.proofs.unsliding.unslide_run.Goals as goal
 
 pub loop-extra-init : goal.loop-extra-init

@@ -59,3 +59,9 @@ returns-clause-sound c =
     let bytes : (k : ℕ) → get_or c.args.area.now k 0 < 256 = search rules in
     (writes-back c.args.info.now c.args.area.now c.loop-i.area c.args.words.now c.requires.made bytes c.requires.pages c.requires.words c.requires.inside c.requires.outside
     c.loop-i.auto.area (returns-clause-links c)).sound
+
+pub returns-clause-slid : goal.returns-clause-slid
+returns-clause-slid c =
+    let bytes : (k : ℕ) → get_or c.args.area.now k 0 < 256 = search rules in
+    (writes-back c.args.info.now c.args.area.now c.loop-i.area c.args.words.now c.requires.made bytes c.requires.pages c.requires.words c.requires.inside c.requires.outside
+    c.loop-i.auto.area (returns-clause-links c)).slid
