@@ -1,7 +1,7 @@
 -- Laws of marks and of the list of children.
-use Rattle.std.proofs.Common.{◌≡◌, ◌≤◌, ◌<◌, ◌⊎◌, ℕ, zero, suc, ◌+◌, ◌-◌, List, [], ◌∷◌, ◌++◌, take, drop, length, get_or, set, map, reverse, refl, sym, ap, ap₂, subst, ◌∙◌, arith, inl, inr, Bool, true, false, append_assoc, length-set, length-append}
-use Rattle.std.specs.Prelude.{Result, Ok, Err, Option, Some, None, nat_eq, ◌||◌, replicate}
-use Rattle.std.proofs.lemmas.Bool.{cond-true, cond-false, cases_Bool, cases_eq, eq-eqb, ne_eqb}
+use Rattle.std.proofs.Common.{◌≡◌, ◌≤◌, ◌<◌, ℕ, zero, suc, ◌+◌, List, [], ◌∷◌, ◌++◌, take, drop, length, get_or, set, map, reverse, refl, sym, ap, ap₂, subst, ◌∙◌, arith, inl, inr, Bool, true, false, append_assoc, length-set, length-append}
+use Rattle.std.specs.Prelude.{Result, Ok, Err, nat_eq, ◌||◌, replicate}
+use Rattle.std.proofs.lemmas.Bool.{cases_eq, eq-eqb, ne_eqb}
 use Rattle.std.proofs.lemmas.List.{append-nil, get_or-set_other, get_or-set_same, get_or-replicate, map-append, take_at, drop_at, reverse-append, reverse-reverse}
 use Rattle.dsc_base.specs.declared.rule.Rule.{Rule}
 use Rattle.export_trie.specs.Nodes.{◌>>=◌, Child, among, first_of, child_at, children_at}

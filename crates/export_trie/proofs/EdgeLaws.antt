@@ -1,18 +1,15 @@
 -- The edges of a node, one group after the other.
-use Rattle.std.proofs.Common.{◌≡◌, ◌≢◌, ◌≤◌, ◌<◌, ◌⊎◌, ℕ, zero, suc, ◌+◌, ◌-◌, List, [], ◌∷◌, ◌++◌, take, drop, length, get_or, set, reverse, refl, sym, ap, ap₂, subst, ◌∙◌, arith, inl, inr, Bool, true, false, append_assoc, length-append, length-drop}
-use Rattle.std.specs.Prelude.{nat_eq, slice_index}
+use Rattle.std.proofs.Common.{◌≡◌, ◌≢◌, ◌≤◌, ◌<◌, ℕ, zero, suc, ◌+◌, ◌-◌, List, [], ◌∷◌, ◌++◌, take, drop, length, get_or, set, reverse, refl, sym, ap, ap₂, subst, ◌∙◌, arith, inl, inr, Bool, false, append_assoc, length-append, length-drop}
+use Rattle.std.specs.Prelude.{nat_eq}
 use Rattle.std.specs.List.{prefix_len}
-use Rattle.std.specs.declared.cmp.Ordering.TheVariants.{Less}
-use Rattle.std.specs.Ordering.{nat_cmp}
-use Rattle.std.specs.Cmp.Lexicographic.{slice_cmp}
 use Rattle.std.proofs.lemmas.Bool.{eqb-false, eq-eqb, ne_eqb, cases_Bool, cond-true, cond-false}
 use Rattle.std.proofs.lemmas.List.{append-nil, take_at, drop_at, reverse-append, reverse-reverse, length-take-le}
 use Rattle.export_trie.specs.declared.export.Export.{Export}
 use Rattle.export_trie.specs.Paths.{Member}
 use Rattle.export_trie.specs.Writing.{Forest, Bare, Branch, goes_with, same_edge, other_edges, shared_len, own_terminal, going_on, children_count, HasNoZero}
-use Rattle.export_trie.specs.Planning.{IsReady, IsGroup, IsHeld, Rising, grown, Plan, plans, open_edges, ArePlanned}
+use Rattle.export_trie.specs.Planning.{IsReady, IsGroup, IsHeld, grown, Plan, plans, open_edges, ArePlanned}
 use Rattle.export_trie.proofs.PrefixLaws.{rising_bytes}
-use Rattle.export_trie.proofs.GroupLaws.{deeper, within, ready_below, ready_next, rest-Member}
+use Rattle.export_trie.proofs.GroupLaws.{within, ready_next, rest-Member}
 use Rattle.export_trie.proofs.PlanLaws.{grown-none, grown-some, planned, planned-some}
 
 -- the bytes of later groups are above that of the first one

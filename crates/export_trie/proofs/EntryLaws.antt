@@ -1,10 +1,9 @@
 -- The one node of a name in an accepted trie, and its entry in the list of exports.
-use Rattle.std.proofs.Common.{◌≡◌, ◌≤◌, ◌<◌, ◌⊎◌, ℕ, zero, suc, ◌+◌, ◌-◌, List, [], ◌∷◌, ◌++◌, take, drop, length, map, refl, sym, ap, ap₂, subst, ◌∙◌, arith, inl, inr, Bool, true, false, append_assoc, length-append}
+use Rattle.std.proofs.Common.{◌≡◌, ◌<◌, ℕ, zero, suc, List, [], ◌∷◌, ◌++◌, drop, length, map, refl, sym, ap, subst, ◌∙◌, arith, inl, inr, false, append_assoc, length-append}
 use Rattle.std.specs.Prelude.{Result, Ok, Err, Option, Some, None, nat_eq, nat_lt}
 use Rattle.std.specs.Cmp.Lexicographic.{pointwise, bytes_decides}
 use Rattle.std.proofs.lemmas.Bool.{cond-true, cond-false, cases_Bool, cases_lt}
 use Rattle.std.proofs.lemmas.List.{append-nil, nil_from_length, drop_all}
-use Rattle.dsc_base.specs.declared.fault.Site.{Site}
 use Rattle.dsc_base.specs.declared.rule.Rule.{Rule}
 use Rattle.dsc_base.specs.declared.rule.Rule.TheVariants.{TrieBadUleb}
 use Rattle.dsc_base.specs.Uleb.{uleb_at}
@@ -12,12 +11,12 @@ use Rattle.export_trie.specs.declared.export.Export.{Export}
 use Rattle.export_trie.specs.declared.export.Target.{Target}
 use Rattle.export_trie.specs.Nodes.{Terminal, Child, among, number_at, head_at, node_at, terminal_of, children_of}
 use Rattle.export_trie.specs.Order.{Visit, visited, exported, export_of, too_many, opened, entered, below, after, break_from, starts, trie_break}
-use Rattle.export_trie.specs.Paths.{Member, Spells, Root, Edge, HasExport, AreExports}
+use Rattle.export_trie.specs.Paths.{Member, Spells, Root, Edge, AreExports}
 use Rattle.export_trie.specs.Reading.{Reaches, Start, Next}
 use Rattle.export_trie.specs.Finding.{target_named, IsTargetOf, Follows, target_of}
-use Rattle.export_trie.proofs.NodeLaws.{ok-value, bind_ok, guard_ok}
+use Rattle.export_trie.proofs.NodeLaws.{bind_ok, guard_ok}
 use Rattle.export_trie.proofs.ReadLaws.{node_at-parts, node_at-reads, terminal_of-node, children_of-node}
-use Rattle.export_trie.proofs.PathLaws.{AreApart, children_of-apart, complete}
+use Rattle.export_trie.proofs.PathLaws.{children_of-apart, complete}
 use Rattle.export_trie.proofs.NameLaws.{Leads, Here, Along, leads, one_node, same_child, no_empty}
 use Rattle.export_trie.proofs.ListLaws.{nothing}
 use Rattle.export_trie.proofs.FindLaws.{some-value}

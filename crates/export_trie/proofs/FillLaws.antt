@@ -1,15 +1,13 @@
 -- Offsets that are filled in as their nodes come.
-use Rattle.std.proofs.Common.{◌≡◌, ◌≢◌, ◌≤◌, ◌<◌, ◌⊎◌, ℕ, zero, suc, ◌+◌, ◌-◌, List, [], ◌∷◌, ◌++◌, take, drop, length, get_or, refl, sym, ap, ap₂, subst, ◌∙◌, arith, inl, inr, Bool, true, false, append_assoc, length-append, length-drop}
-use Rattle.std.specs.Prelude.{nat_eq, Option, Some, None}
-use Rattle.std.proofs.lemmas.List.{append-nil, take-append-drop, take_at, drop_at, length-take-le, drop-append-le, take-append-le, take_all, drop-drop}
+use Rattle.std.proofs.Common.{◌≡◌, ◌≤◌, ℕ, zero, suc, ◌+◌, ◌-◌, List, [], ◌∷◌, ◌++◌, take, drop, length, refl, sym, ap, ap₂, subst, ◌∙◌, arith, append_assoc, length-append, length-drop}
+use Rattle.std.proofs.lemmas.List.{take_at, drop_at, length-take-le, drop-append-le, take-append-le, take_all, drop-drop}
 use Rattle.std.proofs.lemmas.Slice.{put_mid-paste}
 use borrow.Rule.Slice.PartMut.{put_mid}
 use Rattle.dsc_base.specs.Uleb.{uleb4_bytes}
 use Rattle.export_trie.specs.declared.export.Export.{Export}
-use Rattle.export_trie.specs.Nodes.{Terminal}
-use Rattle.export_trie.specs.Writing.{Forest, Bare, Branch, forest, same_edge, other_edges, shared_len, own_terminal, going_on, children_count, edges_len, node_len, nodes_len, edges_bytes, node_bytes, nodes_bytes, terminal_bytes}
-use Rattle.export_trie.specs.Planning.{IsReady, grown, Plan, plans, open_edges, terminal_of_plan, forest_of_plan, plan_len, put_over, filled, following, IsHeld, AreHeld, IsWriting, open_node}
-use Rattle.export_trie.proofs.GroupLaws.{deeper, within, ready_below, ready_next}
+use Rattle.export_trie.specs.Writing.{Forest, Bare, Branch, same_edge, other_edges, shared_len, node_len, nodes_len, edges_bytes, node_bytes, nodes_bytes}
+use Rattle.export_trie.specs.Planning.{IsReady, grown, Plan, plans, open_edges, terminal_of_plan, forest_of_plan, plan_len, put_over, filled, following, AreHeld}
+use Rattle.export_trie.proofs.GroupLaws.{within, ready_next}
 use Rattle.export_trie.proofs.PlanLaws.{grown-none, grown-some, planned, planned-some, length-other}
 
 pub length-uleb4 : (value : ℕ) → length (uleb4_bytes value) ≡ 4

@@ -1,6 +1,6 @@
 -- Following a name along the edges of a trie.
-use Rattle.std.proofs.Common.{◌≡◌, ◌≢◌, ◌≤◌, ◌<◌, ◌⊎◌, ℕ, zero, suc, ◌+◌, ◌-◌, List, [], ◌∷◌, ◌++◌, take, drop, length, get_or, refl, sym, ap, ap₂, subst, ◌∙◌, arith, inl, inr, Bool, true, false}
-use Rattle.std.specs.Prelude.{Result, Ok, Err, Option, Some, None, nat_eq}
+use Rattle.std.proofs.Common.{◌≡◌, ◌≤◌, ◌<◌, ◌⊎◌, ℕ, zero, suc, ◌+◌, ◌-◌, List, [], ◌∷◌, ◌++◌, take, drop, length, get_or, refl, sym, ap, ap₂, subst, ◌∙◌, arith, inl, inr, true, false}
+use Rattle.std.specs.Prelude.{Ok, Err, Option, Some, None, nat_eq}
 use Rattle.std.specs.Cmp.Lexicographic.{pointwise, bytes_decides}
 use Rattle.std.proofs.lemmas.Bool.{false≢true}
 use Rattle.std.proofs.lemmas.List.{take_at, take-append-drop, take_rest}
@@ -8,7 +8,7 @@ use Rattle.dsc_base.specs.declared.rule.Rule.{Rule}
 use Rattle.export_trie.specs.Nodes.{Terminal, Child, first_of, number_at, text_at, head_at, child_at, children_at, edges_at, node_at}
 use Rattle.export_trie.specs.Paths.{Member}
 use Rattle.export_trie.specs.Finding.{Follows}
-use Rattle.export_trie.proofs.NodeLaws.{ok-value, bind_ok, guard_ok, pair-parts, child_at-parts, IsChild}
+use Rattle.export_trie.proofs.NodeLaws.{ok-value, bind_ok, pair-parts, child_at-parts}
 use Rattle.export_trie.proofs.ReadLaws.{node_at-reads}
 
 -- children that are still to be looked at; those before don't begin the name

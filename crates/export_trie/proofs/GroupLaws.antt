@@ -1,19 +1,19 @@
 -- Exports that part at a byte.
-use Rattle.std.proofs.Common.{◌≡◌, ◌≢◌, ◌≤◌, ◌<◌, ◌⊎◌, ℕ, zero, suc, ◌+◌, ◌-◌, min, List, [], ◌∷◌, ◌++◌, take, drop, length, get_or, refl, sym, ap, ap₂, subst, ◌∙◌, arith, inl, inr, Bool, true, false, cond}
-use Rattle.std.specs.Prelude.{nat_eq, nat_lt, Option, Some, None, slice_index}
-use Rattle.std.specs.List.{prefix_len, common_prefix_len}
+use Rattle.std.proofs.Common.{◌≡◌, ◌≢◌, ◌≤◌, ◌<◌, ℕ, zero, suc, ◌+◌, ◌-◌, List, [], ◌∷◌, ◌++◌, take, drop, length, get_or, refl, sym, ap, ap₂, subst, ◌∙◌, arith, inl, inr, Bool, true}
+use Rattle.std.specs.Prelude.{nat_eq}
+use Rattle.std.specs.List.{prefix_len}
 use Rattle.std.specs.declared.cmp.Ordering.TheVariants.{Less}
 use Rattle.std.specs.Ordering.{nat_cmp}
 use Rattle.std.specs.Cmp.Lexicographic.{slice_cmp}
 use Rattle.std.proofs.Math.Seq.{take-suc}
-use Rattle.std.proofs.lemmas.Bool.{cond-true, cond-false, cases_Bool, cases_lt, eqb-true, eqb-false, eq-eqb, ne_eqb, false≢true}
-use Rattle.std.proofs.lemmas.List.{take_all, length-take-le}
+use Rattle.std.proofs.lemmas.Bool.{cond-true, cond-false, cases_Bool, cases_lt, eqb-true, eqb-false}
+use Rattle.std.proofs.lemmas.List.{take_all}
 use Rattle.std.proofs.lemmas.List.Sums.{common_prefix_len-le}
 use Rattle.export_trie.specs.declared.export.Export.{Export}
 use Rattle.export_trie.specs.Paths.{Member}
-use Rattle.export_trie.specs.Writing.{goes_with, same_edge, other_edges, shared_len, own_terminal, going_on, HasNoZero}
+use Rattle.export_trie.specs.Writing.{goes_with, same_edge, other_edges, shared_len, going_on, HasNoZero}
 use Rattle.export_trie.specs.Planning.{Rising, IsReady}
-use Rattle.export_trie.proofs.PrefixLaws.{common, common-take, common-least, common-differs, common-all, common-falls, rising_bytes, front_first, cases_same}
+use Rattle.export_trie.proofs.PrefixLaws.{common, common-take, common-least, common-falls, front_first}
 
 -- parts of a list
 pub Member-take : {A : Type 0} (k : ℕ) (x : A) (xs : List A) → Member x (take k xs) → Member x xs

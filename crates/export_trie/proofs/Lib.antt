@@ -4,6 +4,7 @@ pub mod EntryLaws
 pub mod FillLaws
 pub mod FindLaws
 pub mod GroupLaws
+pub mod KeptLaws
 pub mod ListLaws
 pub mod ListingLaws
 pub mod NameLaws
@@ -16,4 +17,3 @@ pub mod RoundLaws
 pub mod SizeLaws
 pub mod SpellLaws
 pub mod WriteLaws
-mod Rows

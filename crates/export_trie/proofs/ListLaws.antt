@@ -1,18 +1,18 @@
 -- A whole walk in order of names is the list of exports.
-use Rattle.std.proofs.Common.{◌≡◌, ◌≢◌, ◌≤◌, ◌<◌, ◌⊎◌, ℕ, zero, suc, ◌+◌, ◌-◌, List, [], ◌∷◌, ◌++◌, take, drop, length, get_or, map, refl, sym, ap, ap₂, subst, ◌∙◌, arith, inl, inr, Bool, true, false, cond, Ordering}
-use Rattle.std.specs.Prelude.{Result, Ok, Err, Option, Some, None, nat_eq, sum_by}
+use Rattle.std.proofs.Common.{◌≡◌, ◌≢◌, ◌≤◌, ◌<◌, ℕ, zero, suc, ◌+◌, List, [], ◌∷◌, ◌++◌, length, get_or, refl, sym, ap, subst, ◌∙◌, arith, inl, inr, Bool, false, cond, Ordering}
+use Rattle.std.specs.Prelude.{Option, Some, None, nat_eq, sum_by}
 use Rattle.std.specs.declared.cmp.Ordering.TheVariants.{Less, Equal, Greater}
 use Rattle.std.specs.Ordering.{nat_cmp, is_lt, is_eq, ordering_reverse}
 use Rattle.std.specs.Cmp.Lexicographic.{slice_cmp, pointwise, bytes_decides, texts_ties, nat_list_cmp_total}
 use Rattle.std.specs.List.{Contains}
 use Rattle.std.specs.List.Sorted.{IsPermutation, IsSortedBy}
-use Rattle.std.proofs.lemmas.Bool.{cond-true, cond-false, cases_Bool, cases_lt, false≢true}
+use Rattle.std.proofs.lemmas.Bool.{cases_Bool, cases_lt, false≢true}
 use Rattle.std.proofs.Math.Seq.{drop-nil}
 use Rattle.std.proofs.lemmas.List.Sums.{sum_by-append, sum_by-cons}
 use Rattle.std.proofs.lemmas.List.Sorted.{sum_by-IsPermutation, Contains-permutation, IsPermutation-sym}
 use Rattle.export_trie.specs.declared.export.Export.{Export}
-use Rattle.export_trie.specs.Nodes.{Terminal, among, number_at, head_at, node_at, terminal_of}
-use Rattle.export_trie.specs.Order.{Visit, visited, exported, export_of, entered}
+use Rattle.export_trie.specs.Nodes.{Terminal, number_at, head_at, node_at, terminal_of}
+use Rattle.export_trie.specs.Order.{Visit, visited, exported, export_of}
 use Rattle.export_trie.specs.Paths.{Member, Spells, HasExport, AreExports}
 use Rattle.export_trie.specs.Reading.{Reaches, Start, Next, IsWalked}
 use Rattle.dsc_base.specs.Uleb.{uleb_at}

@@ -1,16 +1,16 @@
 -- The forest of exports has these exports, and can be spelled.
-use Rattle.std.proofs.Common.{◌≡◌, ◌≢◌, ◌≤◌, ◌<◌, ◌⊎◌, ℕ, zero, suc, ◌+◌, ◌-◌, List, [], ◌∷◌, ◌++◌, take, drop, length, get_or, refl, sym, ap, ap₂, subst, ◌∙◌, arith, inl, inr, Bool, true, false, cond, append_assoc, length-append, length-drop}
+use Rattle.std.proofs.Common.{◌≡◌, ◌≤◌, ◌<◌, ◌⊎◌, ℕ, zero, suc, ◌+◌, ◌-◌, List, [], ◌∷◌, ◌++◌, take, drop, length, get_or, refl, sym, ap, ap₂, subst, ◌∙◌, arith, inl, inr, true, false, append_assoc, length-drop}
 use Rattle.std.specs.Prelude.{nat_eq, Option, Some, None}
 use Rattle.std.specs.List.{prefix_len}
-use Rattle.std.proofs.lemmas.Bool.{cond-true, cond-false, cases_Bool, eqb-true, eqb-false}
-use Rattle.std.proofs.lemmas.List.{append-nil, take-append-drop, take_all, length-take-le, get_or-drop, get_or-take}
+use Rattle.std.proofs.lemmas.Bool.{cond-true, cond-false, cases_Bool, eqb-true}
+use Rattle.std.proofs.lemmas.List.{take-append-drop, take_all, length-take-le, get_or-drop, get_or-take}
 use Rattle.export_trie.specs.declared.export.Export.{Export}
-use Rattle.export_trie.specs.Nodes.{Terminal, first_of, is_resolver, are_bad_flags}
+use Rattle.export_trie.specs.Nodes.{Terminal, first_of}
 use Rattle.export_trie.specs.Order.{export_of}
 use Rattle.export_trie.specs.Paths.{Member}
-use Rattle.export_trie.specs.Writing.{Forest, Bare, Branch, goes_with, same_edge, other_edges, shared_len, own_terminal, going_on, HasNoZero, FitsFlags, HasNumber, IsWritableExport}
+use Rattle.export_trie.specs.Writing.{Forest, Bare, Branch, goes_with, same_edge, other_edges, shared_len, own_terminal, going_on, HasNoZero, HasNumber, IsWritableExport}
 use Rattle.export_trie.specs.Planning.{IsReady, grown}
-use Rattle.export_trie.proofs.GroupLaws.{deeper, within, group-front, ready_below, ready_next, group-Member, rest-Member}
+use Rattle.export_trie.proofs.GroupLaws.{deeper, within, group-front, ready_below, ready_next, rest-Member}
 use Rattle.export_trie.proofs.PlanLaws.{grown-none, grown-some, left, left-next, left-below}
 use Rattle.export_trie.proofs.EdgeLaws.{later-byte, no_zero}
 use Rattle.export_trie.proofs.SizeLaws.{known-flags, going_on-Member}

@@ -1,10 +1,9 @@
 -- Each name leads to one node, so exports have different names.
-use Rattle.std.proofs.Common.{◌≡◌, ◌≤◌, ◌<◌, ◌⊎◌, ℕ, zero, suc, ◌+◌, ◌-◌, List, [], ◌∷◌, ◌++◌, take, drop, length, get_or, map, refl, sym, ap, ap₂, subst, ◌∙◌, arith, inl, inr, Bool, true, false, cond, append_assoc, length-append}
-use Rattle.std.specs.Prelude.{Result, Ok, Err, Option, Some, None, nat_eq, nat_lt}
+use Rattle.std.proofs.Common.{◌≡◌, ◌<◌, ℕ, List, [], ◌∷◌, ◌++◌, drop, length, refl, sym, ap, subst, ◌∙◌, arith, append_assoc}
 use Rattle.std.proofs.lemmas.List.{append-nil, drop_at}
 use Rattle.export_trie.specs.Nodes.{Child, first_of, children_of}
 use Rattle.export_trie.specs.Paths.{Member, Spells, Root, Edge}
-use Rattle.export_trie.proofs.PathLaws.{AreApart, children_of-apart}
+use Rattle.export_trie.proofs.PathLaws.{children_of-apart}
 
 -- a path that grows at its front
 pub data Leads (trie : List ℕ) : ℕ → List ℕ → ℕ → Type 0 where

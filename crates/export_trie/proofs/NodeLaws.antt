@@ -1,10 +1,9 @@
 -- Laws of the readers of one node.
-use Rattle.std.proofs.Common.{◌≡◌, ◌≤◌, ◌<◌, ◌⊎◌, ℕ, zero, suc, ◌+◌, ◌-◌, List, [], ◌∷◌, ◌++◌, take, drop, length, get_or, refl, sym, ap, ap₂, cond, subst, ◌∙◌, arith, inl, inr, Bool, true, false}
-use Rattle.std.specs.Prelude.{Result, Ok, Err, Option, Some, None, nat_eq, nat_lt, nat_le}
-use Rattle.std.proofs.lemmas.Bool.{cond-true, cond-false, leb-false, cases_Bool, eqb-true, eqb-false, eq-eqb, ne_eqb, lt-ltb, le-ltb, false_from_ne_true}
+use Rattle.std.proofs.Common.{◌≡◌, ◌<◌, ℕ, zero, suc, List, [], ◌∷◌, take, drop, length, get_or, refl, ap, ap₂, cond, subst, ◌∙◌, arith, Bool, true, false}
+use Rattle.std.specs.Prelude.{Result, Ok, Err, nat_eq, nat_le}
+use Rattle.std.proofs.lemmas.Bool.{leb-false, eqb-false, false_from_ne_true}
 use Rattle.dsc_base.specs.declared.rule.Rule.{Rule}
 use Rattle.dsc_base.specs.declared.rule.Rule.TheVariants.{TrieEnded}
-use Rattle.export_trie.specs.declared.export.Target.{Target}
 use Rattle.export_trie.specs.Nodes.{◌>>=◌, Child, among, first_of, number_at, text_at, child_at}
 
 -- a text up to the first 0, and none where there is no 0

@@ -1,15 +1,13 @@
 -- Paths of edges: each name leads to one node, and a whole walk visits every node that a path ends at.
-use Rattle.std.proofs.Common.{◌≡◌, ◌≤◌, ◌<◌, ◌⊎◌, ℕ, zero, suc, ◌+◌, ◌-◌, List, [], ◌∷◌, ◌++◌, take, drop, length, get_or, map, refl, sym, ap, ap₂, subst, ◌∙◌, arith, inl, inr, Bool, true, false, cond, append_assoc, length-append}
-use Rattle.std.specs.Prelude.{Result, Ok, Err, Option, Some, None, nat_eq, nat_lt, ◌||◌}
-use Rattle.std.proofs.lemmas.Bool.{cond-true, cond-false, cases_Bool, eq-eqb, false≢true, or_parts, or_left, or_right}
-use Rattle.std.proofs.lemmas.List.{append-nil}
+use Rattle.std.proofs.Common.{◌≡◌, ◌<◌, ◌⊎◌, ℕ, zero, suc, List, [], ◌∷◌, ◌++◌, drop, length, map, refl, sym, ap, subst, ◌∙◌, arith, inl, inr, true, false}
+use Rattle.std.specs.Prelude.{Result, Ok, Err, Option, nat_eq, nat_lt}
+use Rattle.std.proofs.lemmas.Bool.{eq-eqb, false≢true, or_parts, or_left, or_right}
 use Rattle.dsc_base.specs.declared.rule.Rule.{Rule}
-use Rattle.export_trie.specs.declared.export.Export.{Export}
-use Rattle.export_trie.specs.Nodes.{Terminal, Child, among, first_of, head_at, child_at, children_at, edges_at, node_at, terminal_of, children_of, children_in, terminal_in}
+use Rattle.export_trie.specs.Nodes.{Terminal, Child, among, first_of, head_at, child_at, children_at, edges_at, node_at, children_of, children_in}
 use Rattle.export_trie.specs.Order.{Visit, visited, exported, export_of, too_many, opened, entered, below, starts}
-use Rattle.export_trie.specs.Paths.{Member, Spells, Root, Edge, HasExport}
-use Rattle.export_trie.specs.Reading.{Reaches, Start, Next, IsWalked}
-use Rattle.export_trie.proofs.NodeLaws.{ok-value, bind_ok, guard_ok, child_at-parts, IsChild}
+use Rattle.export_trie.specs.Paths.{Member, Spells, Root, Edge}
+use Rattle.export_trie.specs.Reading.{Reaches, Start, Next}
+use Rattle.export_trie.proofs.NodeLaws.{ok-value, bind_ok, guard_ok, child_at-parts}
 use Rattle.export_trie.proofs.ReadLaws.{node_at-parts, children_of-node}
 
 -- members

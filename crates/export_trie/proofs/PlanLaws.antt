@@ -1,17 +1,14 @@
 -- The forest of exports, a child after the other, and the plans of its nodes.
-use Rattle.std.proofs.Common.{◌≡◌, ◌≢◌, ◌≤◌, ◌<◌, ◌⊎◌, ℕ, zero, suc, ◌+◌, ◌-◌, min, List, [], ◌∷◌, ◌++◌, take, drop, length, get_or, refl, sym, ap, ap₂, subst, ◌∙◌, arith, inl, inr, Bool, true, false, cond, append_assoc, length-append, length-drop}
-use Rattle.std.specs.Prelude.{nat_eq, Option, Some, None, sum_by}
+use Rattle.std.proofs.Common.{◌≡◌, ◌≤◌, ◌<◌, ℕ, zero, suc, ◌+◌, ◌-◌, List, [], ◌∷◌, take, drop, length, refl, sym, ap, ap₂, subst, ◌∙◌, arith, inl, inr, length-drop}
+use Rattle.std.specs.Prelude.{nat_eq, sum_by}
 use Rattle.std.specs.List.{prefix_len}
-use Rattle.std.proofs.lemmas.Bool.{cond-true, cond-false, cases_Bool, cases_lt, eqb-true, eqb-false}
-use Rattle.std.proofs.lemmas.List.{append-nil, take-append-drop, take_at, drop_at, length-take-le, drop-append-le, take-append-le}
+use Rattle.std.proofs.lemmas.Bool.{cond-true, cond-false, cases_Bool}
+use Rattle.std.proofs.lemmas.List.{take-append-drop}
 use Rattle.std.proofs.lemmas.List.Sums.{sum_by-append, sum_by-cons}
-use Rattle.dsc_base.specs.Uleb.{uleb4_bytes}
 use Rattle.export_trie.specs.declared.export.Export.{Export}
-use Rattle.export_trie.specs.Nodes.{Terminal}
-use Rattle.export_trie.specs.Paths.{Member}
-use Rattle.export_trie.specs.Writing.{Forest, Bare, Branch, forest, goes_with, same_edge, other_edges, shared_len, own_terminal, going_on, children_count, edges_len, node_len, nodes_len, edges_bytes, node_bytes, nodes_bytes, terminal_bytes}
-use Rattle.export_trie.specs.Planning.{IsReady, bytes_of_names, grown, Plan, plans, open_edges, terminal_of_plan, forest_of_plan, plan_len, put_over, filled, following, AreHeld}
-use Rattle.export_trie.proofs.GroupLaws.{deeper, within, group-longer, ready_below, ready_next}
+use Rattle.export_trie.specs.Writing.{Forest, Bare, Branch, forest, goes_with, same_edge, other_edges, shared_len, own_terminal, going_on}
+use Rattle.export_trie.specs.Planning.{IsReady, bytes_of_names, grown, Plan, plans}
+use Rattle.export_trie.proofs.GroupLaws.{deeper, within, ready_below, ready_next}
 
 -- how many bytes of names are left
 abbrev pub left : ℕ → List Export → ℕ

@@ -1,8 +1,8 @@
 -- Laws of one visit and of the visits so far.
-use Rattle.std.proofs.Common.{◌≡◌, ◌≤◌, ◌<◌, ◌⊎◌, ℕ, zero, suc, ◌+◌, ◌-◌, ◌*◌, List, [], ◌∷◌, ◌++◌, take, drop, length, get_or, set, map, refl, sym, ap, ap₂, subst, ◌∙◌, arith, inl, inr, Bool, true, false, cond, append_assoc, length-set, length-append}
-use Rattle.std.specs.Prelude.{Result, Ok, Err, Option, Some, None, nat_eq, nat_lt, not, count_by, sum_by, slice_index_or, slice_set, replicate, OnOk, IfErr}
-use Rattle.std.proofs.lemmas.Bool.{cond-true, cond-false, cases_Bool, lt-ltb, le-ltb, false≢true}
-use Rattle.std.proofs.lemmas.List.{append-nil, map-append, take_all, take-append-le, take-take, length-take-le, get_or-replicate, length-replicate}
+use Rattle.std.proofs.Common.{◌≡◌, ◌≤◌, ◌<◌, ◌⊎◌, ℕ, zero, suc, ◌+◌, List, [], ◌∷◌, ◌++◌, take, drop, length, get_or, set, map, refl, sym, ap, ap₂, subst, ◌∙◌, arith, inl, inr, Bool, true, false, cond, length-set, length-append}
+use Rattle.std.specs.Prelude.{Result, Ok, Err, Option, Some, None, nat_lt, not, count_by, replicate, OnOk, IfErr}
+use Rattle.std.proofs.lemmas.Bool.{cond-true, cond-false, lt-ltb, le-ltb}
+use Rattle.std.proofs.lemmas.List.{take_all, take-append-le, length-take-le, get_or-replicate, length-replicate}
 use Rattle.std.proofs.lemmas.List.Sums.{sum_by-set, sum_by-cons}
 use Rattle.dsc_base.specs.declared.rule.Rule.{Rule}
 use Rattle.dsc_base.specs.declared.rule.Rule.TheVariants.{TrieNodeTwice, TrieBadNode, TrieTooManyNames}
@@ -10,11 +10,11 @@ use Rattle.dsc_base.specs.declared.fault.Site.{Site}
 use Rattle.export_trie.specs.declared.export.Export.{Export}
 use Rattle.export_trie.specs.declared.node.ReadFault.{ReadFault}
 use Rattle.export_trie.specs.declared.node.ReadFault.TheVariants as read_faults
-use Rattle.export_trie.specs.Nodes.{◌>>=◌, Terminal, Child, among, first_of, head_at, child_at, children_at, edges_at, node_at, terminal_of, children_of}
-use Rattle.export_trie.specs.Order.{Visit, visited, exported, export_of, too_many, opened, entered, below, after, break_from, starts, trie_break, names_len}
-use Rattle.export_trie.specs.Reading.{Marks, Pend, pend, visit_of, works, Gives, Reaches, Start, Next, Nested, Inside, Stands, IsEntered, Enters, IsKept, IsOpened, Opens, IsBreakOf, IsWalked, fault_at, weight}
+use Rattle.export_trie.specs.Nodes.{Terminal, Child, among, first_of, head_at, child_at, children_at, edges_at, node_at, terminal_of, children_of}
+use Rattle.export_trie.specs.Order.{Visit, visited, exported, export_of, too_many, opened, entered, below, after, break_from, starts, trie_break}
+use Rattle.export_trie.specs.Reading.{Marks, Pend, pend, visit_of, works, Gives, Reaches, Start, Next, Nested, Inside, Stands, IsEntered, Enters, IsKept, IsOpened, Opens, IsBreakOf, IsWalked, fault_at}
 use Rattle.export_trie.proofs.ChildLaws.{Marks-set}
-use Rattle.export_trie.proofs.NodeLaws.{ok-value, bind_ok, guard_ok, pair-parts, child_at-parts, IsChild}
+use Rattle.export_trie.proofs.NodeLaws.{ok-value, bind_ok, guard_ok, pair-parts, child_at-parts}
 
 -- a node that is read
 pub opened-head : (trie : List ℕ) (before : List Export) (visit : Visit) (terminal : Option Terminal) (rest : List ℕ) → head_at (drop visit.1 trie) ≡ Ok (terminal, rest) → too_many (before ++ export_of visit.0 terminal) ≡ false → opened trie before visit ≡ edges_at (length trie) rest
@@ -314,7 +314,7 @@ open_broken trie marks marks' name name' next coming coming' exports exports' si
 
 -- at the end
 pub stands_done : (trie : List ℕ) (marks : List Bool) (name : List ℕ) (exports : List Export) (size : ℕ) → Stands trie marks name [] exports size → IsWalked trie exports
-stands_done trie marks name exports size stands = record { made = stands.made; reached = stands.reached; listed = stands.listed }
+stands_done trie marks name exports size stands = record { made = stands.made; reached = stands.reached; listed = stands.listed; few = stands.few }
 
 pub stands_accepted : (trie : List ℕ) (marks : List Bool) (name : List ℕ) (exports : List Export) (size : ℕ) → Stands trie marks name [] exports size → trie_break trie ≡ None
 stands_accepted trie marks name exports size stands =

@@ -1,12 +1,12 @@
 -- A trie that was written is read back.
-use Rattle.std.proofs.Common.{◌≡◌, ◌≢◌, ◌≤◌, ◌<◌, ◌⊎◌, ℕ, zero, suc, ◌+◌, ◌-◌, ◌^◌, List, [], ◌∷◌, ◌++◌, take, drop, length, get_or, map, refl, sym, ap, ap₂, subst, ◌∙◌, arith, inl, inr, Bool, true, false, cond, append_assoc, length-append}
-use Rattle.std.specs.Prelude.{nat_eq, nat_lt, Option, Some, None, Result, Ok, Err, sum_by, ◌||◌}
-use Rattle.std.proofs.lemmas.Bool.{cond-true, cond-false, cases_Bool, eqb-true, eqb-false, ne_eqb, or_from, or_parts, ltb-false, le-ltb}
+use Rattle.std.proofs.Common.{◌≡◌, ◌≤◌, ◌<◌, ℕ, ◌+◌, ◌-◌, ◌^◌, List, [], ◌∷◌, ◌++◌, drop, length, get_or, map, refl, sym, ap, ap₂, subst, ◌∙◌, arith, inl, inr, false, append_assoc, length-append}
+use Rattle.std.specs.Prelude.{nat_eq, nat_lt, Option, None, Ok, sum_by}
+use Rattle.std.proofs.lemmas.Bool.{cond-true, cond-false, cases_Bool, ne_eqb, or_from, or_parts, ltb-false, le-ltb}
 use Rattle.std.proofs.lemmas.List.{append-nil, drop_at, take_all}
 use Rattle.std.proofs.lemmas.List.Sums.{sum_by-append}
 use Rattle.export_trie.specs.declared.export.Export.{Export}
-use Rattle.export_trie.specs.Nodes.{Terminal, Child, among, first_of, head_at, edges_at, terminal_of}
-use Rattle.export_trie.specs.Order.{Visit, visited, exported, export_of, names_len, too_many, opened, entered, below, starts, break_from, trie_break}
+use Rattle.export_trie.specs.Nodes.{Terminal, Child, among, first_of, head_at, terminal_of}
+use Rattle.export_trie.specs.Order.{Visit, visited, exported, export_of, names_len, too_many, entered, below, starts, break_from, trie_break}
 use Rattle.export_trie.specs.Writing.{Forest, Bare, Branch, forest, own_terminal, going_on, trie_bytes, IsWritable, HaveNumbers, children_count, node_len, nodes_len, edges_bytes, node_bytes, nodes_bytes, rooted_bytes, terminal_bytes}
 use Rattle.std.specs.declared.cmp.Ordering.TheVariants.{Less}
 use Rattle.std.specs.Ordering.{nat_cmp, is_lt, ordering_reverse}
@@ -108,6 +108,26 @@ pub record IsForestVisited (whole : List ℕ) (made : List Visit) (coming : List
   pub before : AreBefore end made'
   pub count : length made' ≤ length made + len
 
+-- the exports of a node, of what is below it and of its siblings, one after the other
+list-own : (made own first next more all : List Export) → (made ++ (own ++ (first ++ next))) ++ more ≡ all → (made ++ own) ++ ((first ++ next) ++ more) ≡ all
+list-own made own first next more all list =
+    sym (append_assoc (made ++ own) (first ++ next) more) ∙ (ap (λ (l : List Export). l ++ more) (append_assoc made own (first ++ next)) ∙ list)
+
+list-first : (made own here first next more all : List Export) → here ≡ made ++ own → (made ++ own) ++ ((first ++ next) ++ more) ≡ all → (here ++ first) ++ (next ++ more) ≡ all
+list-first made own here first next more all is list =
+    ap (λ (l : List Export). (l ++ first) ++ (next ++ more)) is
+    ∙ (append_assoc (made ++ own) first (next ++ more)
+    ∙ (ap (λ (l : List Export). (made ++ own) ++ l) (sym (append_assoc first next more)) ∙ list))
+
+list-next : (here first below next more all : List Export) → below ≡ here ++ first → (here ++ first) ++ (next ++ more) ≡ all → (below ++ next) ++ more ≡ all
+list-next here first below next more all is list = append_assoc below next more ∙ (ap (λ (l : List Export). l ++ (next ++ more)) is ∙ list)
+
+list-all : (made own here first below next end : List Export) → here ≡ made ++ own → below ≡ here ++ first → end ≡ below ++ next → end ≡ made ++ (own ++ (first ++ next))
+list-all made own here first below next end here_is below_is end_is =
+    end_is
+    ∙ (ap (λ (l : List Export). l ++ next) (below_is ∙ ap (λ (l : List Export). l ++ first) here_is)
+    ∙ (append_assoc (made ++ own) first next ∙ append_assoc made own (first ++ next)))
+
 forest-visited : (whole : List ℕ) (made coming : List Visit) (name : List ℕ) (at low depth : ℕ) (f : Forest) (more all : List Export) → Reaches whole made (map (below name) (listed at f) ++ coming) → IsPlaced whole at (nodes_bytes at f) → length whole < 2 ^ 28 → IsSound low depth f → AreBefore at made → length name ≡ depth → (exported whole made ++ listing name f) ++ more ≡ all → too_many all ≡ false → IsForestVisited whole made coming (listing name f) (at + nodes_len f) (nodes_len f)
 unfolding exported
 forest-visited whole made coming name at low depth Bare more all reached placed small sound before deep list few = record {
@@ -130,34 +150,24 @@ forest-visited whole made coming name at low depth (Branch edge t f next) more a
     let whole_len = length-nodes at (Branch edge t f next) in
     let within = placed-within whole at (node ++ (inner ++ outer)) placed in
     let deep' : length (name ++ edge) ≡ depth + length edge = length-append name edge ∙ ap (λ (n : ℕ). n + length edge) deep in
-    let list1 : (exported whole made ++ own) ++ ((first_list ++ next_list) ++ more) ≡ all =
-    sym (append_assoc (exported whole made ++ own) (first_list ++ next_list) more)
-    ∙ (ap (λ (l : List Export). l ++ more) (append_assoc (exported whole made) own (first_list ++ next_list)) ∙ list) in
+    let list1 = list-own (exported whole made) own first_list next_list more all list in
     let visited = node-visited whole made (name ++ edge) at (depth + length edge) t f (placed-left whole at node (inner ++ outer) placed) (omega (arith, within, whole_len)) small sound.3 sound.5 before
     (omega (arith, deep', sound.4)) (few-front (exported whole made ++ own) ((first_list ++ next_list) ++ more) (ap too_many list1 ∙ few)) in
     let exported_is : exported whole (here ∷ made) ≡ exported whole made ++ own = ap (λ (o : Option Terminal). exported whole made ++ export_of (name ++ edge) o) visited.ends in
-    let list2 : (exported whole (here ∷ made) ++ first_list) ++ (next_list ++ more) ≡ all =
-    ap (λ (l : List Export). (l ++ first_list) ++ (next_list ++ more)) exported_is
-    ∙ (append_assoc (exported whole made ++ own) first_list (next_list ++ more)
-    ∙ (ap (λ (l : List Export). (exported whole made ++ own) ++ l) (sym (append_assoc first_list next_list more)) ∙ list1)) in
+    let list2 = list-first (exported whole made) own (exported whole (here ∷ made)) first_list next_list more all exported_is list1 in
     let below_placed = placed-left whole (at + size) inner outer (placed-right whole at size node (inner ++ outer) (length-node (at + size) t f) placed) in
     let first = forest-visited whole (here ∷ made) (map (below name) (listed at' next) ++ coming) (name ++ edge) (at + size) 0 (depth + length edge) f (next_list ++ more) all
     (Next (listed (at + size) f) reached visited.ok) below_placed small sound.5 (omega arith, AreBefore-more at (at + size) made (omega arith) before) deep' list2 few in
     let next_placed : IsPlaced whole at' outer =
     subst (λ (n : ℕ). IsPlaced whole n outer) (let e : at + size + nodes_len f ≡ at' = omega arith in e)
     (placed-right whole (at + size) (nodes_len f) inner outer (length-nodes (at + size) f) (placed-right whole at size node (inner ++ outer) (length-node (at + size) t f) placed)) in
-    let list3 : (exported whole first.made' ++ next_list) ++ more ≡ all =
-    append_assoc (exported whole first.made') next_list more
-    ∙ (ap (λ (l : List Export). l ++ (next_list ++ more)) first.exports ∙ list2) in
+    let list3 = list-next (exported whole (here ∷ made)) first_list (exported whole first.made') next_list more all first.exports list2 in
     let second = forest-visited whole first.made' coming name at' (first_of edge) depth next more all first.reached next_placed small sound.6
     (subst (λ (n : ℕ). AreBefore n first.made') (let e : at + size + nodes_len f ≡ at' = omega arith in e) first.before) deep list3 few in
     record {
       made' = second.made';
       reached = second.reached;
-      exports =
-          second.exports
-          ∙ (ap (λ (l : List Export). l ++ next_list) (first.exports ∙ ap (λ (l : List Export). l ++ first_list) exported_is)
-          ∙ (append_assoc (exported whole made ++ own) first_list next_list ∙ append_assoc (exported whole made) own (first_list ++ next_list)));
+      exports = list-all (exported whole made) own (exported whole (here ∷ made)) first_list (exported whole first.made') next_list (exported whole second.made') exported_is first.exports second.exports;
       before = subst (λ (n : ℕ). AreBefore n second.made') (let e : at' + nodes_len next ≡ at + (size + nodes_len f + nodes_len next) = omega arith in e) second.before;
       count = omega (arith, second.count, first.count);
     }
@@ -178,6 +188,7 @@ rooted-back exports t f small fits sound list few = record {
     made = visited.made';
     reached = visited.reached;
     listed = sym (visited.exports ∙ (ap (λ (l : List Export). l ++ listing [] f) exported_is ∙ list));
+    few = few;
   };
   accepted = trie_break-none whole visited.made' (length whole - length visited.made') visited.reached (omega (arith, visited.count, whole_len));
 }
@@ -229,7 +240,7 @@ going_root-Member first exports e member =
 
 pub written-back : (exports : List Export) → IsWritable exports → HaveNumbers exports → IsReadBack (trie_bytes exports) exports
 unfolding trie_bytes exported trie_break break_from
-written-back [] writable numbers = record { walked = record { made = []; reached = Start; listed = refl }; accepted = refl }
+written-back [] writable numbers = record { walked = record { made = []; reached = Start; listed = refl; few = writable.few }; accepted = refl }
 written-back (first ∷ exports) writable numbers =
     let held = writable-held first exports writable in
     let ready = (held.ready first exports refl).0 in

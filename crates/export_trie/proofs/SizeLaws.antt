@@ -1,21 +1,21 @@
 -- How long a trie can be.
-use Rattle.std.proofs.Common.{◌≡◌, ◌≢◌, ◌≤◌, ◌<◌, ◌⊎◌, ℕ, zero, suc, ◌+◌, ◌-◌, ◌*◌, ◌^◌, List, [], ◌∷◌, ◌++◌, take, drop, length, get_or, refl, sym, ap, ap₂, subst, ◌∙◌, arith, inl, inr, Bool, true, false, cond, append_assoc, length-append, length-drop}
+use Rattle.std.proofs.Common.{◌≡◌, ◌≢◌, ◌≤◌, ◌<◌, ◌⊎◌, ℕ, zero, suc, ◌+◌, ◌-◌, ◌*◌, ◌^◌, List, [], ◌∷◌, ◌++◌, take, drop, length, get_or, refl, sym, ap, ap₂, subst, ◌∙◌, arith, inl, inr, true, false, length-append, length-drop}
 use Rattle.std.specs.Prelude.{nat_eq, nat_le, nat_lt, Option, Some, None, sum_by}
 use Rattle.std.specs.List.{prefix_len}
 use Rattle.std.proofs.Math.Seq.{take-suc}
 use Rattle.std.proofs.lemmas.Bool.{cond-true, cond-false, cases_Bool, cases_lt, eqb-true, eqb-false, leb-false, ltb-false, or_parts}
-use Rattle.std.proofs.lemmas.List.{append-nil, length-take-le, take_all, take-append-drop}
+use Rattle.std.proofs.lemmas.List.{length-take-le, take_all, take-append-drop}
 use Rattle.std.proofs.lemmas.List.Sums.{sum_by-append, sum_by-cons}
 use Rattle.dsc_base.specs.Uleb.{uleb_bytes, uleb4_bytes}
 use Rattle.dsc_base.proofs.UlebLaws.{length-uleb_bytes, length-uleb_bytes_ten, uleb_bytes-one}
 use Rattle.export_trie.specs.declared.export.Export.{Export}
 use Rattle.export_trie.specs.declared.export.Target.{Target}
 use Rattle.export_trie.specs.declared.export.Target.TheVariants.{Offset, Absolute, Reexport}
-use Rattle.export_trie.specs.Nodes.{Terminal, kind_of, is_reexport, are_bad_flags}
+use Rattle.export_trie.specs.Nodes.{Terminal, are_bad_flags}
 use Rattle.export_trie.specs.Order.{renamed_len, names_len, too_many}
 use Rattle.export_trie.specs.Paths.{Member}
 use Rattle.export_trie.specs.Writing.{Forest, Bare, Branch, forest, goes_with, same_edge, other_edges, shared_len, own_terminal, going_on, children_count, edges_len, node_len, nodes_len, edges_bytes, node_bytes, nodes_bytes, rooted_bytes, terminal_bytes, target_bytes, trie_bytes, IsWritable, IsWritableExport}
-use Rattle.export_trie.specs.Planning.{IsReady, bytes_of_names, grown, IsHeld}
+use Rattle.export_trie.specs.Planning.{IsReady, bytes_of_names, grown}
 use Rattle.export_trie.proofs.PrefixLaws.{common, common-least}
 use Rattle.export_trie.proofs.GroupLaws.{deeper, within, group-front, group-longer, ready_below, ready_next, group-Member, rest-Member, prefix-passes, shared-least}
 use Rattle.export_trie.proofs.PlanLaws.{grown-none, grown-some, grown-enough, left, left-deeper, left-names, left-parts, left-next, left-below}

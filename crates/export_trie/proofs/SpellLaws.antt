@@ -1,16 +1,16 @@
 -- What is spelled is read back.
-use Rattle.std.proofs.Common.{◌≡◌, ◌≢◌, ◌≤◌, ◌<◌, ◌⊎◌, ℕ, zero, suc, ◌+◌, ◌-◌, ◌^◌, List, [], ◌∷◌, ◌++◌, take, drop, length, get_or, refl, sym, ap, ap₂, subst, ◌∙◌, arith, inl, inr, Bool, true, false, cond, append_assoc, length-append}
-use Rattle.std.specs.Prelude.{nat_eq, nat_le, nat_lt, Option, Some, None, Result, Ok, Err, ◌||◌, if◌then◌else◌}
-use Rattle.std.proofs.lemmas.Bool.{cond-true, cond-false, lt-ltb, le-ltb, lt-leb, ne_eqb, eq-eqb, or_from}
+use Rattle.std.proofs.Common.{◌≡◌, ◌≤◌, ◌<◌, ℕ, suc, ◌+◌, ◌-◌, ◌^◌, List, [], ◌∷◌, ◌++◌, drop, length, refl, sym, ap, ap₂, ◌∙◌, arith, false, append_assoc, length-append}
+use Rattle.std.specs.Prelude.{nat_eq, nat_le, nat_lt, Option, Some, None, Result, Ok, Err, if◌then◌else◌}
+use Rattle.std.proofs.lemmas.Bool.{cond-true, cond-false, le-ltb, lt-leb, ne_eqb, or_from}
 use Rattle.std.proofs.lemmas.List.{drop_at}
 use Rattle.dsc_base.specs.declared.rule.Rule.{Rule}
-use Rattle.dsc_base.specs.declared.rule.Rule.TheVariants.{TrieBadUleb, TrieEnded, TrieSiblingsClash, TrieBadFlags, TrieResolver, TrieBadNode}
+use Rattle.dsc_base.specs.declared.rule.Rule.TheVariants.{TrieEnded, TrieSiblingsClash, TrieBadFlags, TrieResolver, TrieBadNode}
 use Rattle.dsc_base.specs.Uleb.{uleb_at, uleb_bytes, uleb4_bytes}
 use Rattle.dsc_base.proofs.UlebLaws.{uleb_read_back, uleb4_read_back, uleb_bytes-one}
 use Rattle.export_trie.specs.declared.export.Target.{Target}
 use Rattle.export_trie.specs.declared.export.Target.TheVariants.{Offset, Absolute, Reexport}
 use Rattle.export_trie.specs.Nodes.{◌>>=◌, Terminal, Child, among, first_of, kind_of, is_reexport, is_resolver, are_bad_flags, value_of, number_in, number_at, text_at, target_at, terminal_at, head_at, child_at, children_at, edges_at}
-use Rattle.export_trie.specs.Writing.{Forest, Bare, Branch, children_count, node_len, nodes_len, edges_bytes, node_bytes, target_bytes, terminal_bytes, HasNoZero, FitsFlags, HasNumber}
+use Rattle.export_trie.specs.Writing.{Forest, Bare, Branch, children_count, node_len, nodes_len, edges_bytes, target_bytes, terminal_bytes, HasNoZero, FitsFlags, HasNumber}
 use Rattle.export_trie.proofs.ChildLaws.{children_at-more}
 use Rattle.export_trie.proofs.FillLaws.{length-uleb4}
 

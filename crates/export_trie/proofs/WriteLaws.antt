@@ -1,10 +1,10 @@
 -- What was written and what is to come make the whole trie.
-use Rattle.std.proofs.Common.{◌≡◌, ◌≢◌, ◌≤◌, ◌<◌, ◌⊎◌, ℕ, zero, suc, ◌+◌, ◌-◌, List, [], ◌∷◌, ◌++◌, take, drop, length, get_or, reverse, refl, sym, ap, ap₂, subst, ◌∙◌, arith, inl, inr, Bool, true, false, cond, append_assoc, length-append}
-use Rattle.std.specs.Prelude.{nat_eq, Option, Some, None, sum_by}
+use Rattle.std.proofs.Common.{◌≡◌, ◌≢◌, ◌≤◌, ◌<◌, ◌⊎◌, ℕ, zero, suc, ◌+◌, ◌-◌, List, [], ◌∷◌, ◌++◌, drop, length, get_or, reverse, refl, sym, ap, ap₂, subst, ◌∙◌, arith, inl, inr, true, false, append_assoc, length-append}
+use Rattle.std.specs.Prelude.{nat_eq, Option}
 use Rattle.std.specs.declared.cmp.Ordering.TheVariants.{Less}
 use Rattle.std.specs.Ordering.{nat_cmp}
 use Rattle.std.specs.Cmp.Lexicographic.{slice_cmp, nat_list_cmp_total}
-use Rattle.std.proofs.lemmas.Bool.{cond-true, cond-false, cases_Bool, cases_lt, eqb-true, eqb-false}
+use Rattle.std.proofs.lemmas.Bool.{cond-true, cond-false, cases_Bool, eqb-false}
 use Rattle.std.proofs.lemmas.List.{append-nil, reverse-append}
 use Rattle.std.proofs.lemmas.List.Sums.{sum_by-cons}
 use Rattle.dsc_base.specs.Uleb.{uleb4_bytes}
@@ -12,13 +12,13 @@ use Rattle.export_trie.specs.declared.export.Export.{Export}
 use Rattle.export_trie.specs.declared.export.Target.{Target}
 use Rattle.export_trie.specs.declared.export.Target.TheVariants.{Offset, Absolute, Reexport}
 use Rattle.export_trie.specs.Nodes.{Terminal}
-use Rattle.export_trie.specs.Order.{renamed_len}
+use Rattle.export_trie.specs.Order.{renamed_len, too_many}
 use Rattle.export_trie.specs.Paths.{Member}
 use Rattle.export_trie.specs.Writing.{Forest, Bare, Branch, forest, same_edge, other_edges, shared_len, own_terminal, going_on, children_count, edges_len, node_len, nodes_len, edges_bytes, node_bytes, nodes_bytes, rooted_bytes, terminal_bytes, trie_bytes, FitsFlags, IsWritable, IsWritableExport}
 use Rattle.export_trie.specs.Planning.{IsReady, Rising, bytes_of_names, grown, Plan, plans, open_edges, open_node, first_terminal, first_forest, first_rest, terminal_of_plan, forest_of_plan, plan_len, put_over, filled, following, IsHeld, AreHeld, IsWriting, IsOpenNode, IsNextNode}
-use Rattle.export_trie.proofs.GroupLaws.{deeper, within, ready_below, ready_next, group-Member, rest-Member}
-use Rattle.export_trie.proofs.PlanLaws.{grown-none, grown-enough, planned, planned-some, length-other, left, left-names}
-use Rattle.export_trie.proofs.FillLaws.{length-uleb4, length-put_over, AreHoles, AreHoles-held, AreHoles-more, length-filled, filled-more, filled-append, following-append, plans_len, IsStand, stand}
+use Rattle.export_trie.proofs.GroupLaws.{within, ready_below, ready_next, group-Member, rest-Member}
+use Rattle.export_trie.proofs.PlanLaws.{grown-enough, planned, planned-some, length-other, left, left-names}
+use Rattle.export_trie.proofs.FillLaws.{length-uleb4, length-put_over, AreHoles, AreHoles-held, length-filled, filled-more, filled-append, following-append, plans_len, IsStand, stand}
 
 length-open_edges : (below : Forest) → length (open_edges below) ≡ edges_len below
 length-open_edges Bare = refl
@@ -350,3 +350,15 @@ next_longer whole out out' plan coming coming' writing next =
     let same : length next.middle ≡ length out =
     ap length next.filled_in ∙ length-put_over plan.hole (uleb4_bytes (length out)) out (omega (arith, writing.held.0, length-uleb4 (length out))) in
     omega (arith, stands.len, same)
+
+-- one export that can be written
+pub writable_one : (export : Export) → IsWritableExport export → too_many (export ∷ []) ≡ false → IsWritable (export ∷ [])
+writable_one export writable few = record {
+  rises = λ k d inside. absurd (omega arith);
+  each = λ e member. one e member;
+  few = few;
+}
+  where
+    one : (e : Export) → Member e (export ∷ []) → IsWritableExport e
+    one e (inl is) = subst IsWritableExport (sym is) writable
+    one e (inr none) = absurd none

@@ -1,5 +1,5 @@
 -- What one node of an export trie spells, or the first rule that it breaks. A reader gives what it read and the bytes after it.
-use Rattle.std.specs.Prelude.{ℕ, zero, suc, ◌+◌, ◌-◌, bit_and, Bool, true, false, ◌&&◌, ◌||◌, not, List, [], ◌∷◌, length, drop, slice_index, Option, Some, None, Result, Ok, Err, nat_eq, nat_lt, nat_le, if◌then◌else◌}
+use Rattle.std.specs.Prelude.{ℕ, zero, suc, ◌-◌, bit_and, Bool, false, ◌&&◌, ◌||◌, not, List, [], ◌∷◌, length, drop, slice_index, Option, Some, None, Result, Ok, Err, nat_eq, nat_lt, nat_le, if◌then◌else◌}
 use Rattle.dsc_base.specs.declared.fault.UlebFault.{UlebFault}
 use Rattle.dsc_base.specs.declared.rule.Rule.{Rule}
 use Rattle.dsc_base.specs.declared.rule.Rule.TheVariants.{TrieBadUleb, TrieEnded, TrieSiblingsClash, TrieBadFlags, TrieResolver, TrieBadNode}

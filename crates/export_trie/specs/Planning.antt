@@ -1,5 +1,5 @@
 -- What the parts of writing promise each other.
-use Rattle.std.specs.Prelude.{◌≡◌, ◌<◌, ◌≤◌, ℕ, zero, suc, ◌+◌, ◌-◌, List, [], ◌∷◌, ◌++◌, length, take, drop, sum_by, slice_index, Option, Some, None}
+use Rattle.std.specs.Prelude.{◌≡◌, ◌<◌, ◌≤◌, ℕ, zero, suc, ◌+◌, ◌-◌, List, [], ◌∷◌, ◌++◌, length, take, drop, sum_by, slice_index, Option, None}
 use Rattle.std.specs.declared.cmp.Ordering.TheVariants.{Less}
 use Rattle.std.specs.Ordering.{nat_cmp}
 use Rattle.std.specs.Cmp.Lexicographic.{slice_cmp}
@@ -8,7 +8,7 @@ use Rattle.dsc_base.specs.Uleb.{uleb4_bytes}
 use Rattle.export_trie.specs.Nodes.{Terminal}
 use Rattle.export_trie.specs.Order.{renamed_len}
 use Rattle.export_trie.specs.Paths.{Member}
-use Rattle.export_trie.specs.Writing.{Forest, Bare, Branch, forest, goes_with, same_edge, other_edges, shared_len, own_terminal, going_on, children_count, terminal_bytes, node_len, nodes_len, node_bytes, nodes_bytes, HasNoZero}
+use Rattle.export_trie.specs.Writing.{Forest, Bare, Branch, forest, same_edge, other_edges, shared_len, own_terminal, going_on, children_count, terminal_bytes, node_len, nodes_len, node_bytes, nodes_bytes, HasNoZero}
 
 -- each name stands before all later ones
 abbrev pub Rising : List Export → Type 0

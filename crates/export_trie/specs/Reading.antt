@@ -135,6 +135,7 @@ pub record IsWalked (trie : List ℕ) (exports : List Export) : Type 0 where
   pub made : List Visit
   pub reached : Reaches trie made []
   pub listed : exports ≡ exported trie made
+  pub few : too_many exports ≡ false
 
 -- a fault is the first rule that is broken
 abbrev pub IsBreakOf : Option Site → Fault → Type 0

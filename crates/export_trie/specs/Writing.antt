@@ -1,5 +1,5 @@
 -- The bytes of a trie: names in bytewise order, the longest common edges, nodes in preorder, offsets of children in four bytes.
-use Rattle.std.specs.Prelude.{◌≡◌, ◌<◌, ◌≤◌, ℕ, zero, suc, ◌+◌, ◌-◌, ◌^◌, min, List, [], ◌∷◌, ◌++◌, length, take, drop, sum_by, slice_index, slice_index_or, Option, Some, None, Bool, true, false, nat_eq, if◌then◌else◌}
+use Rattle.std.specs.Prelude.{◌≡◌, ◌<◌, ◌≤◌, ℕ, zero, suc, ◌+◌, ◌^◌, min, List, [], ◌∷◌, ◌++◌, length, take, drop, sum_by, slice_index, slice_index_or, Option, Some, None, Bool, true, false, nat_eq, if◌then◌else◌}
 use Rattle.std.specs.List.{prefix_len, common_prefix_len}
 use Rattle.dsc_base.specs.Uleb.{uleb_bytes, uleb4_bytes}
 use Rattle.export_trie.specs.declared.export.Export.{Export}

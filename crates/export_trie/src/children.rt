@@ -104,8 +104,8 @@ fn push_counted<'a>(
     Ok(())
 }
 
-// Turns the order of all but the first `base`.
-fn turn_from(pending: &mut Vec<Pending<'_>>, base: usize)
+/// Turns the order of all but the first `base`.
+pub(crate) fn turn_from<T>(pending: &mut Vec<T>, base: usize)
     requires { base ≤ length pending.old.items }
     ensures turned { pending.new.items ≡ take base pending.old.items ++ reverse (drop base pending.old.items) }
     ensures len { length pending.new.items ≡ length pending.old.items }

@@ -6,6 +6,8 @@ mod export;
 mod finding;
 mod node;
 mod reading;
+#[cfg(test)]
+mod tests;
 mod writing;
 
 pub use export::{Export, Found, Target};

@@ -2,6 +2,7 @@
 ghost use Rattle.std.specs.Prelude.{ℕ, List, ◌≡◌, ◌<◌, ◌≤◌, ◌∷◌, ◌+◌, false, length, reverse, sum_by, None, IfOk, OnOk, IfErr};
 ghost use Rattle.export_trie.specs.Order.{trie_break, names_len, renamed_len, too_many};
 ghost use Rattle.export_trie.specs.declared.export.Export.{Export};
+ghost use Rattle.export_trie.specs.Writing.{IsWritable, HaveNumbers};
 ghost use Rattle.export_trie.specs.Paths.{AreExports};
 ghost use Rattle.export_trie.specs.Reading.{Enters, Keeps, Opens, Stands, weight, IsWalked, IsBreakOf, fault_at, target_in, some_terminal_in};
 
@@ -193,6 +194,7 @@ fn start<'a>(alloc: Global, bytes: &'a [u8]) -> Result<Walk<'a>, NoMemory>
 pub fn read_trie(alloc: Global, bytes: &[u8]) -> Result<Vec<Export>, Fault>
     ensures list { IfOk result (λ exports. AreExports bytes.now exports.items) }
     ensures only { (exports : List Export) → AreExports bytes.now exports → IfOk result (λ list. list.items ≡ exports) }
+    ensures writable { IfOk result (λ exports. IsWritable exports.items × HaveNumbers exports.items) }
     ensures accepted { OnOk result (trie_break bytes.now ≡ None) }
     ensures fault { IfErr result (IsBreakOf (trie_break bytes.now)) }
 {

@@ -8,6 +8,7 @@ ghost use Rattle.dsc_base.specs.Uleb.{uleb4_bytes};
 ghost use Rattle.export_trie.specs.Planning.{Plan, IsReady, ArePlanned, IsGroup, IsHeld, IsOpenNode, IsNextNode, put_over};
 ghost use Rattle.export_trie.specs.declared.export.Export.{Export};
 
+use crate::children::turn_from;
 use crate::export::{Export, Target};
 use dsc_base::{NoMemory, put_uleb, uleb_len, uleb4};
 use std::alloc::Global;
@@ -209,16 +210,8 @@ fn put_edges<'a>(
         rest = group.rest;
     }
     out[count_at] = count;
-    turn_plans(pending, base);
+    turn_from(pending, base);
     Ok(())
-}
-
-// Turns the order of all but the first `base`.
-fn turn_plans(pending: &mut Vec<Planned<'_>>, base: usize)
-    requires { base ≤ length pending.old.items }
-    ensures { pending.new.items ≡ take base pending.old.items ++ reverse (drop base pending.old.items) }
-{
-    pending[base..].reverse();
 }
 
 // A node with room for the offsets of its children, which are planned.

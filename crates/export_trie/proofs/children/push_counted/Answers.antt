@@ -1,11 +1,9 @@
 -- The loop's steps and its end.
-use Rattle.std.proofs.Common.{◌≡◌, ◌<◌, ◌≤◌, ◌++◌, ◌∷◌, ◌∙◌, ℕ, List, [], length, take, drop, map, reverse, set, get_or, refl, sym, ap, arith, rules}
-use Rattle.std.specs.Prelude.{Result, Ok, Err}
+use Rattle.std.proofs.Common.{◌≡◌, ◌++◌, ◌∷◌, [], arith, rules}
 use Rattle.std.proofs.lemmas.Result.{err_from_is_err_and}
-use Rattle.dsc_base.specs.declared.rule.Rule.{Rule}
-use Rattle.export_trie.specs.Nodes.{Child, child_at, children_at}
-use Rattle.export_trie.specs.Reading.{Marks, Pend, pend, Gives}
-use Rattle.export_trie.proofs.ChildLaws.{SoFar, so_far_none, so_far_more, so_far_fault, so_far_all, gives_pushed}
+use Rattle.export_trie.specs.Nodes.{Child}
+use Rattle.export_trie.specs.Reading.{pend}
+use Rattle.export_trie.proofs.ChildLaws.{so_far_none, so_far_more, so_far_fault, so_far_all, gives_pushed}
 use Rattle.export_trie.proofs.children.push_counted.Goals as goal
 
 pub loop-init : goal.loop-init

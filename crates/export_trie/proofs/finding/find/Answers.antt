@@ -1,8 +1,8 @@
 -- The name is followed to its one node, or to a node where no edge goes on.
-use Rattle.std.proofs.Common.{◌≡◌, ◌<◌, ◌≤◌, ℕ, List, length, arith, rules, sym, ap, subst, ◌∙◌}
-use Rattle.std.specs.Prelude.{Option, Some, None}
+use Rattle.std.proofs.Common.{◌<◌, length, arith, rules, sym, subst, ◌∙◌}
+use Rattle.std.specs.Prelude.{Option, None}
 use Rattle.export_trie.specs.declared.export.Target.{Target}
-use Rattle.export_trie.specs.Finding.{IsTargetOf, Follows, target_of}
+use Rattle.export_trie.specs.Finding.{IsTargetOf, target_of}
 use Rattle.export_trie.proofs.EntryLaws.{absent_from_nothing, followed_none, followed_more, followed_shorter, followed_absent, followed_all, read_inside, entry_of_target}
 use Rattle.export_trie.proofs.finding.find.Goals as goal
 

@@ -1,5 +1,5 @@
 -- The children stand behind the terminal.
-use Rattle.std.proofs.Common.{◌≡◌, ◌∙◌, ℕ, List, [], sym, ap, length, drop, get_or, arith, rules}
+use Rattle.std.proofs.Common.{◌≡◌, ◌∙◌, [], sym, ap, length, get_or}
 use Rattle.std.proofs.lemmas.List.{take_rest}
 use Rattle.export_trie.specs.Nodes.{edges_at, children_at}
 use Rattle.export_trie.proofs.FindLaws.{behind_head, edges_at-some, edges_at-none, some-value}

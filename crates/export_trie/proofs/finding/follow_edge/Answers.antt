@@ -1,5 +1,5 @@
 -- Each child is read as the node has it, and is passed where its edge doesn't begin the name.
-use Rattle.std.proofs.Common.{◌≡◌, ◌<◌, ◌≤◌, ℕ, List, ◌++◌, ◌∙◌, sym, ap, arith, rules}
+use Rattle.std.proofs.Common.{ℕ, List, ◌++◌, ◌∙◌, sym, ap}
 use Rattle.export_trie.proofs.FindLaws.{no_text_fault, no_number_fault, still_found, still_more, still_none, stripped, not_stripped}
 use Rattle.export_trie.proofs.finding.follow_edge.Goals as goal
 

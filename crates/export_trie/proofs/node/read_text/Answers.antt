@@ -1,5 +1,5 @@
 -- The text ends at the first 0.
-use Rattle.std.proofs.Common.{◌≡◌, ◌≤◌, ◌<◌, ℕ, List, ◌+◌, suc, drop, take, length, ap, sym, ◌∙◌, arith}
+use Rattle.std.proofs.Common.{◌≡◌, ℕ, List, ◌+◌, suc, drop, take, ap, sym, ◌∙◌, arith}
 use Rattle.std.specs.Prelude.{Result, Ok}
 use Rattle.std.proofs.lemmas.List.{take_rest}
 use Rattle.dsc_base.specs.declared.rule.Rule.{Rule}

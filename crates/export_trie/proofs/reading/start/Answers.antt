@@ -1,8 +1,7 @@
 -- The first node is to come, if there is one.
-use Rattle.std.proofs.Common.{◌≡◌, ◌<◌, ◌⊎◌, ℕ, List, [], ◌∷◌, length, reverse, refl, inl, inr, ap, ap₂, sym, subst, ◌∙◌, arith, rules, false}
+use Rattle.std.proofs.Common.{◌≡◌, ◌<◌, ◌⊎◌, [], ◌∷◌, length, reverse, refl, inl, inr, rules, false}
 use Rattle.std.specs.Prelude.{replicate}
 use Rattle.std.proofs.lemmas.List.{nil_from_length}
-use Rattle.export_trie.specs.Reading.{Pend, Stands}
 use Rattle.export_trie.proofs.ReadLaws.{stands_start}
 use Rattle.export_trie.proofs.reading.start.Goals as goal
 use Rattle.export_trie.proofs.reading.start.Goals.{then-not-is_empty+in_ok-push, else-not-is_empty}

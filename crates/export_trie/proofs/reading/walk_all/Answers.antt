@@ -1,5 +1,5 @@
 -- Where nothing is to come there was no fault.
-use Rattle.std.proofs.Common.{◌≡◌, ◌+◌, ℕ, List, [], length, reverse, arith, rules}
+use Rattle.std.proofs.Common.{[], arith, rules}
 use Rattle.std.specs.Prelude.{count_by, not}
 use Rattle.export_trie.specs.Reading.{Reaches}
 use Rattle.export_trie.proofs.ReadLaws.{trie_break-none}

@@ -1,5 +1,5 @@
 -- The second name ends, or the bytes differ.
-use Rattle.std.proofs.Common.{◌≡◌, ◌<◌, ◌≤◌, inl, inr, arith, rules}
+use Rattle.std.proofs.Common.{inl, inr}
 use Rattle.export_trie.proofs.PrefixLaws.{common-stops}
 use Rattle.export_trie.proofs.writing.common_len.Goals as goal
 use Rattle.export_trie.proofs.writing.common_len.Goals.{then-len-b-via-then-len-b, then-len-b-via-else-len-b+then-b-len}

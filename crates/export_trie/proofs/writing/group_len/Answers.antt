@@ -1,7 +1,6 @@
 -- The last name of the group has the front of the first one.
-use Rattle.std.proofs.Common.{◌≡◌, ◌<◌, ◌≤◌, ◌∙◌, ◌-◌, ℕ, List, length, get_or, sym, inl, inr, refl, ap, ap₂, take, arith, rules}
+use Rattle.std.proofs.Common.{◌∙◌, ◌-◌, length, sym, inl, inr, refl, ap, ap₂, take, arith}
 use Rattle.export_trie.specs.Paths.{Member}
-use Rattle.export_trie.specs.declared.export.Export.{Export}
 use Rattle.export_trie.proofs.PrefixLaws.{common}
 use Rattle.export_trie.proofs.GroupLaws.{last-Member, shared-last}
 use Rattle.export_trie.proofs.writing.group_len.Goals as goal

@@ -1,5 +1,4 @@
 -- The others are ready as all are.
-use Rattle.std.proofs.Common.{◌≡◌, ◌≤◌, ◌<◌, arith, rules}
 use Rattle.std.proofs.lemmas.List.{take_rest}
 use Rattle.export_trie.proofs.GroupLaws.{ready-longer, ready-part}
 use Rattle.export_trie.proofs.writing.next_group.Goals as goal

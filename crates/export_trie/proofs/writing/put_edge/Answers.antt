@@ -1,5 +1,5 @@
 -- The bytes of the edge, and five zeros.
-use Rattle.std.proofs.Common.{◌≡◌, ◌≤◌, ◌++◌, ◌-◌, ◌+◌, ◌∙◌, ◌∷◌, [], ℕ, List, length, take, drop, sym, refl, ap, append_assoc, arith, rules}
+use Rattle.std.proofs.Common.{◌≡◌, ◌++◌, ◌-◌, ◌+◌, ◌∙◌, ◌∷◌, [], ℕ, List, take, drop, sym, ap, append_assoc, arith}
 use Rattle.std.proofs.lemmas.List.{drop-take}
 use Rattle.export_trie.proofs.writing.put_edge.Goals as goal
 

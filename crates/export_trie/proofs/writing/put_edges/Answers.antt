@@ -1,7 +1,7 @@
 -- The loop's steps and its end.
-use Rattle.std.proofs.Common.{◌≡◌, ◌≤◌, ◌<◌, ◌++◌, ◌∷◌, ◌+◌, ◌-◌, ◌∙◌, [], ℕ, List, length, take, drop, reverse, set, sym, ap, subst, arith, rules}
+use Rattle.std.proofs.Common.{◌≡◌, ℕ, List, length, set, ap, subst, arith, rules}
 use Rattle.export_trie.specs.declared.export.Export.{Export}
-use Rattle.export_trie.specs.Planning.{IsReady, Plan}
+use Rattle.export_trie.specs.Planning.{IsReady}
 use Rattle.export_trie.proofs.GroupLaws.{deeper, within}
 use Rattle.export_trie.proofs.EdgeLaws.{edges_none, edges_more, edges_all}
 use Rattle.export_trie.proofs.writing.put_edges.Goals as goal
@@ -32,5 +32,5 @@ returns c =
     let base : c.len-base.result ≡ length c.args.pending.now.items = search rules in
     let at : c.len-count_at.result ≡ length c.args.out.now.items = search rules in
     edges_all c.args.depth c.args.exports.now c.loop-group.rest.now c.args.out.now.items c.loop-group.out.items (set c.loop-group.out.items c.len-count_at.result c.loop-group.count)
-    c.args.pending.now.items c.loop-group.pending.items c.turn_plans.new.pending.items c.len-base.result c.loop-group.count c.loop-group.invariant c.in_default.ensures base
-    (ap (λ (n : ℕ). set c.loop-group.out.items n c.loop-group.count) at) c.turn_plans.ensures
+    c.args.pending.now.items c.loop-group.pending.items c.turn_from.new.pending.items c.len-base.result c.loop-group.count c.loop-group.invariant c.in_default.ensures base
+    (ap (λ (n : ℕ). set c.loop-group.out.items n c.loop-group.count) at) c.turn_from.ensures.turned

@@ -1,5 +1,5 @@
 -- The edges and plans so far, and those of the exports that are left, are those of all.
-use Rattle.std.proofs.Common.{◌≡◌, length}
+use Rattle.std.proofs.Common.{length}
 use Rattle.export_trie.proofs.EdgeLaws.{EdgesSoFar}
 use Rattle.export_trie.proofs.writing.put_edges.Given as goal
 

@@ -1,5 +1,5 @@
 -- The exports below the node are ready.
-use Rattle.std.proofs.Common.{◌≡◌, ◌≢◌, ◌≤◌, ◌∙◌, List, Bor, ap, sym, length, arith, rules}
+use Rattle.std.proofs.Common.{◌∙◌, List, Bor, ap, length, arith}
 use Rattle.std.proofs.lemmas.List.{take_rest}
 use Rattle.export_trie.specs.declared.export.Export.{Export}
 use Rattle.export_trie.proofs.EdgeLaws.{held-own, held-other}

@@ -1,5 +1,5 @@
 -- Node by node, until nothing is to come.
-use Rattle.std.proofs.Common.{◌≡◌, ◌≤◌, ◌<◌, ◌-◌, ◌∙◌, ◌++◌, ◌∷◌, [], ℕ, List, length, reverse, subst, sym, ap, arith, rules}
+use Rattle.std.proofs.Common.{◌≡◌, ◌∙◌, [], List, reverse, subst, ap, arith, rules}
 use Rattle.std.proofs.lemmas.List.{nil_from_length}
 use Rattle.export_trie.specs.Writing.{trie_bytes}
 use Rattle.export_trie.specs.Planning.{Plan, IsWriting}

@@ -1,5 +1,5 @@
 -- A visit is entering the node and reading it.
-use Rattle.std.proofs.Common.{◌≡◌, ℕ, List, reverse, ap, ap₂, sym, subst, ◌∙◌}
+use Rattle.std.proofs.Common.{◌≡◌, ℕ, List, reverse, ap, ap₂, subst}
 use Rattle.std.proofs.lemmas.Result.{err_from_is_err_and}
 use Rattle.export_trie.specs.Order.{Visit}
 use Rattle.export_trie.specs.Reading.{Pend, Opens}
