@@ -10,7 +10,7 @@ use Rattle.uuid.specs.Uuid.{namespace_oid}
 use Rattle.uuid.specs.declared.Version.TheVariants.{Sha1}
 use Rattle.uuid.specs.declared.Variant.TheVariants.{RFC4122}
 use Rattle.macho_image.specs.Rules.{is_printable}
-use Rattle.cache_build.specs.Layout.{paged}
+use Rattle.dsc_base.specs.Region.{paged}
 use Rattle.cache_build.specs.Identifier.{identifier_of}
 use Rattle.cache_build.specs.Cache.{text_bytes}
 

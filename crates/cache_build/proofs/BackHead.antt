@@ -11,7 +11,7 @@ use Rattle.dsc_base.specs.Fields.{spelled, field_at, AreWhole}
 use Rattle.dsc_base.proofs.FieldLaws.{length-spelled, u32_spelled, u64_spelled}
 use Rattle.macho_image.specs.Rules.{is_printable}
 use Rattle.load_model.specs.Head.{header_number, image_count, image_address, image_path, max_slide}
-use Rattle.cache_build.specs.Layout.{region_start, region_size, paged, padded}
+use Rattle.dsc_base.specs.Region.{region_start, region_size, paged, padded}
 use Rattle.cache_build.specs.Head.{head_fields, head_of}
 use Rattle.cache_build.specs.Identifier.{identifier_of}
 use Rattle.cache_build.specs.Cache.{slide_fields, text_bytes, joined}

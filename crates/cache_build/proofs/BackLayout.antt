@@ -5,7 +5,7 @@ use Rattle.dsc_base.specs.Fields.{spelled}
 use Rattle.dsc_base.proofs.FieldLaws.{length-spelled}
 use Rattle.dsc_base.specs.Numbers.{number_at}
 use Rattle.load_model.specs.Head.{header_number, mapping_at, mappings_from, mappings_of, slide_info_bytes}
-use Rattle.cache_build.specs.Layout.{region_start, paged, padded}
+use Rattle.dsc_base.specs.Region.{region_start, paged, padded}
 use Rattle.cache_build.specs.Head.{head_of}
 use Rattle.cache_build.specs.Identifier.{identifier_of}
 use Rattle.cache_build.specs.Cache.{slide_fields, text_bytes, joined}

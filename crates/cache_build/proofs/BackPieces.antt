@@ -10,7 +10,7 @@ use Rattle.slide_chain.specs.Chains.{Slide, slid_area, reached, each_page, page_
 use Rattle.slide_chain.specs.Info.{info_read, halves_at}
 use Rattle.load_model.specs.Head.{Mapping, slide_info_bytes}
 use Rattle.load_model.specs.Mapped.{Piece, piece_of, with_slid_data, pieces_of, flat}
-use Rattle.cache_build.specs.Layout.{region_start, paged}
+use Rattle.dsc_base.specs.Region.{region_start, paged}
 use Rattle.cache_build.specs.Cache.{slide_fields, joined}
 use Rattle.cache_build.proofs.Back.{IsBuildable}
 use Rattle.cache_build.proofs.BackLayout.{length_is, slide_info_is, mappings_are}

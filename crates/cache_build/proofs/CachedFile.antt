@@ -10,7 +10,7 @@ use Rattle.macho_image.specs.declared.form.Form.TheVariants.{Standalone, Cached}
 use Rattle.macho_image.specs.Records.{Load, SegmentLoad}
 use Rattle.macho_image.specs.Macho.{header_size, header_in, number_of, is_segment, commands_of, loads_of, segment_load, segment_loads, sections_in}
 use Rattle.macho_image.specs.Rules.{first_segment, is_well_shaped, is_linkedit, breaks_not_mach_o, breaks_wrong_kind, flags_fit, says_cached, breaks_command_shape, misshapen}
-use Rattle.cache_build.specs.Layout.{paged}
+use Rattle.dsc_base.specs.Region.{paged}
 use Rattle.cache_build.specs.Header.{cached_header, cached_commands}
 use Rattle.cache_build.specs.Cache.{text_place, linkedit_place, places_of}
 use Rattle.cache_build.proofs.PlainLaws.{segments_yes, segments_no}

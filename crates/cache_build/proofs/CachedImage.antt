@@ -8,7 +8,7 @@ use Rattle.macho_image.specs.Records.{Load, SegmentLoad}
 use Rattle.macho_image.specs.Macho.{header_size, header_in, loads_of, segment_loads, image_of}
 use Rattle.macho_image.specs.Rules.{outside_of, is_linkedit}
 use Rattle.macho_image.specs.Breaks.{image_break}
-use Rattle.cache_build.specs.Layout.{paged, padded}
+use Rattle.dsc_base.specs.Region.{paged, padded}
 use Rattle.cache_build.specs.Header.{cached_header}
 use Rattle.cache_build.specs.Cache.{places_of, slide_fields, text_bytes, joined}
 use Rattle.dsc_base.specs.Fields.{spelled}

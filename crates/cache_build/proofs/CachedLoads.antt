@@ -9,7 +9,7 @@ use Rattle.macho_image.specs.Records.{Load, SegmentLoad}
 use Rattle.macho_image.specs.Macho.{header_size, header_in, loads_of}
 use Rattle.dsc_base.specs.Numbers.{number_at}
 use Rattle.macho_image.specs.Rules.{first_segment, is_well_shaped, first_crossing, shares_address, misplaced, misplaced_behind, is_good_text, is_good_linkedit, is_text, is_linkedit, breaks_segment_shape, breaks_segment_place, breaks_segment_prot, breaks_section_shape, sections_stand, sections_start, breaks_interposing, section_type, breaks_has_relocations}
-use Rattle.cache_build.specs.Layout.{region_start, paged}
+use Rattle.dsc_base.specs.Region.{region_start, paged}
 use Rattle.cache_build.specs.Cache.{text_place, linkedit_place}
 use Rattle.cache_build.proofs.Unbroken.{neither_least, least-none}
 use Rattle.cache_build.proofs.PlainLaws.{AreKinds}

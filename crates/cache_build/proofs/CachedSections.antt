@@ -6,7 +6,7 @@ use Rattle.std.proofs.lemmas.Bool.Decides.{nat_tests}
 use Rattle.macho_image.specs.Records.{SectionLoad}
 use Rattle.macho_image.specs.Records.{SegmentLoad}
 use Rattle.macho_image.specs.Rules.{section_stands, sections_stand, is_in_file_bytes, is_zero_fill}
-use Rattle.cache_build.specs.Layout.{region_start}
+use Rattle.dsc_base.specs.Region.{region_start}
 use Rattle.cache_build.specs.Header.{section_offset}
 use Rattle.cache_build.proofs.MovedSections.{moved_place}
 use Rattle.cache_build.proofs.CachedCommands.{and_parts}

@@ -12,8 +12,9 @@ use Rattle.macho_image.specs.Records.{Img, Seg, SegmentLoad}
 use Rattle.macho_image.specs.Macho.{header_size, header_in, section_of}
 use Rattle.macho_image.specs.Rules.{section_stands, sections_stand, sections_start, breaks_section_shape, is_text}
 use Rattle.load_model.specs.Memory.{Cells, wrap, above, with_bytes}
-use Rattle.load_model.specs.Corresponds.{is_linkedit, section_shape, segment_shape, sections_of, shapes_from, shape_of}
-use Rattle.cache_build.specs.Layout.{region_start}
+use Rattle.macho_image.specs.Rules.{is_linkedit_segment}
+use Rattle.load_model.specs.Corresponds.{section_shape, segment_shape, sections_of, shapes_from, shape_of}
+use Rattle.dsc_base.specs.Region.{region_start}
 use Rattle.cache_build.proofs.PlainFile.{IsPlainFile, none_pass, not_false}
 use Rattle.cache_build.proofs.Unbroken.{neither_least}
 use Rattle.cache_build.proofs.MovedSections.{moved_place}
@@ -73,29 +74,29 @@ own_sections (x ∷ xs) = ap (λ (us : List Section). section_of 0 x ∷ us) (ow
 pub record IsTwo (image : Img) (a b : Seg) (xs : List SectionLoad) : Type 0 where
   pub segments : image.segments ≡ a ∷ b ∷ []
   pub sections : image.sections ≡ map (section_of 0) xs
-  pub linkedit : is_linkedit b ≡ true
+  pub linkedit : is_linkedit_segment b ≡ true
 
 text_shape : Seg → List SectionLoad → List ℕ
-text_shape a xs = if is_linkedit a then [] else segment_shape a (map (section_of 0) xs)
+text_shape a xs = if is_linkedit_segment a then [] else segment_shape a (map (section_of 0) xs)
 
-shape_of_two : (image : Img) (a b : Seg) (xs : List SectionLoad) → IsTwo image a b xs → shape_of image ≡ (if is_linkedit a then 0 else 1) ∷ (text_shape a xs ++ [])
+shape_of_two : (image : Img) (a b : Seg) (xs : List SectionLoad) → IsTwo image a b xs → shape_of image ≡ (if is_linkedit_segment a then 0 else 1) ∷ (text_shape a xs ++ [])
 unfolding shape_of text_shape
 shape_of_two image a b xs two =
     let own : sections_of image 0 ≡ map (section_of 0) xs = ap (λ (us : List Section). filter (λ (u : Section). nat_eq u.segment 0) us) two.sections ∙ own_sections xs in
-    let last : (if is_linkedit b then [] else segment_shape b (sections_of image 1)) ≡ [] = cond-true (is_linkedit b) [] (segment_shape b (sections_of image 1)) two.linkedit in
-    let count : length (filter (λ (s : Seg). not (is_linkedit s)) (a ∷ b ∷ [])) ≡ (if is_linkedit a then 0 else 1) =
-    ap (λ (v : Bool). length (cond (not (is_linkedit a)) (a ∷ cond (not v) (b ∷ []) []) (cond (not v) (b ∷ []) []))) two.linkedit
-    ∙ counted (is_linkedit a) in
+    let last : (if is_linkedit_segment b then [] else segment_shape b (sections_of image 1)) ≡ [] = cond-true (is_linkedit_segment b) [] (segment_shape b (sections_of image 1)) two.linkedit in
+    let count : length (filter (λ (s : Seg). not (is_linkedit_segment s)) (a ∷ b ∷ [])) ≡ (if is_linkedit_segment a then 0 else 1) =
+    ap (λ (v : Bool). length (cond (not (is_linkedit_segment a)) (a ∷ cond (not v) (b ∷ []) []) (cond (not v) (b ∷ []) []))) two.linkedit
+    ∙ counted (is_linkedit_segment a) in
     let rest : shapes_from image 0 (a ∷ b ∷ []) ≡ text_shape a xs ++ [] =
-    ap₂ (λ (us : List Section) (l : List ℕ). (if is_linkedit a then [] else segment_shape a us) ++ (l ++ [])) own last in
-    ap (λ (ss : List Seg). length (filter (λ (s : Seg). not (is_linkedit s)) ss) ∷ shapes_from image 0 ss) two.segments
+    ap₂ (λ (us : List Section) (l : List ℕ). (if is_linkedit_segment a then [] else segment_shape a us) ++ (l ++ [])) own last in
+    ap (λ (ss : List Seg). length (filter (λ (s : Seg). not (is_linkedit_segment s)) ss) ∷ shapes_from image 0 ss) two.segments
     ∙ ap₂ (λ (n : ℕ) (l : List ℕ). n ∷ l) count rest
   where
     counted : (v : Bool) → length (cond (not v) (a ∷ []) []) ≡ (if v then 0 else 1)
     counted true = refl
     counted false = refl
 
-pub shapes_same : (one two : Img) (a a' b b' : Seg) (xs xs' : List SectionLoad) → IsTwo one a b xs → IsTwo two a' b' xs' → is_linkedit a' ≡ is_linkedit a
+pub shapes_same : (one two : Img) (a a' b b' : Seg) (xs xs' : List SectionLoad) → IsTwo one a b xs → IsTwo two a' b' xs' → is_linkedit_segment a' ≡ is_linkedit_segment a
     → segment_shape a' (map (section_of 0) xs') ≡ segment_shape a (map (section_of 0) xs) → shape_of two ≡ shape_of one
 unfolding text_shape
 shapes_same one two a a' b b' xs xs' is is' linkedit shape =

@@ -1,7 +1,7 @@
 -- The parts that are appended one after another are the cache.
 use Rattle.std.proofs.Common.{◌≡◌, ℕ, List, [], ◌∷◌, ◌++◌, drop, length, ap, ap₂, ◌∙◌, append_assoc}
 use Rattle.dsc_base.specs.Fields.{spelled}
-use Rattle.cache_build.specs.Layout.{paged, padded}
+use Rattle.dsc_base.specs.Region.{paged, padded}
 use Rattle.cache_build.specs.Head.{head_of}
 use Rattle.cache_build.specs.Header.{cached_header}
 use Rattle.cache_build.specs.Identifier.{identifier_of}

@@ -6,7 +6,7 @@ use Rattle.dsc_base.proofs.NumberLaws.{number_at-put_same, number_at-put_other, 
 use Rattle.macho_image.specs.Records.{SectionLoad}
 use Rattle.macho_image.specs.Macho.{section_fields, sections_in}
 use Rattle.cache_build.specs.Header.{is_zero_fill, section_offset, moved_section, moved_sections}
-use Rattle.cache_build.specs.Layout.{region_start}
+use Rattle.dsc_base.specs.Region.{region_start}
 use Rattle.cache_build.proofs.PutLaws.{take-put}
 
 -- the fields of a section that moves by a shift

@@ -9,7 +9,7 @@ use Rattle.dsc_base.specs.Numbers.{number_at}
 use Rattle.macho_image.specs.Records.{Load, SegmentLoad}
 use Rattle.macho_image.specs.Macho.{header_in, number_of, is_install_name, is_dylib, is_uuid, loads_from, loads_of, commands_of, command_where, dylib_name, install_name_of, uuid_of, image_of, image_from}
 use Rattle.macho_image.specs.Rules.{first_load, is_plain_name, is_printable}
-use Rattle.cache_build.specs.Layout.{paged}
+use Rattle.dsc_base.specs.Region.{paged}
 use Rattle.cache_build.specs.Header.{cached_header}
 use Rattle.cache_build.specs.Cache.{places_of, text_bytes}
 use Rattle.cache_build.proofs.PlainLaws.{AreKinds}

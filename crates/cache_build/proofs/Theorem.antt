@@ -1,6 +1,7 @@
 -- The cache of a plain file corresponds to it, wherever the file is loaded and at every permitted slide.
 use Rattle.std.proofs.Common.{◌≡◌, ◌≤◌, ◌<◌, ℕ, zero, suc, ◌+◌, ◌-◌, ◌%◌, ◌^◌, Option, Some, None, List, [], ◌∷◌, ◌++◌, take, drop, length, map, get_or, replicate, refl, sym, ap, ap₂, ◌∙◌, subst, arith, length-append, length-drop}
-use Rattle.std.specs.Prelude.{slice_get}
+use Rattle.std.specs.Prelude.{All, Vec, slice_get}
+use Rattle.std.specs.declared.alloc.Global.{Global}
 use Rattle.std.specs.List.{flat_map}
 use Rattle.std.specs.Option.{option_or, option_map}
 use Rattle.dsc_base.specs.declared.fault.Break.{Break}
@@ -15,22 +16,22 @@ use Rattle.macho_image.specs.Macho.{header_size, header_in, segment_of, section_
 use Rattle.macho_image.specs.Breaks.{image_at, image_unless}
 use Rattle.load_model.specs.Memory.{wrap, above, with_bytes}
 use Rattle.load_model.specs.Loading.{Linked, linked, segments_at, rebased, bound_to, loaded_image, loaded, loaded_starts}
-use Rattle.load_model.specs.Head.{image_path, image_address}
+use Rattle.load_model.specs.Head.{image_path, image_address, max_slide}
 use Rattle.load_model.specs.Mapped.{Piece, cells_of, mapped, cached_image}
 use Rattle.load_model.specs.Corresponds.{section_shape, shape_of, mapped_starts, ImageCorresponds, Corresponds}
 use Rattle.dsc_base.specs.Fields.{spelled}
 use Rattle.dsc_base.specs.declared.fault.Site.{Site}
-use Rattle.cache_build.specs.Layout.{region_start, paged, padded}
+use Rattle.dsc_base.specs.Region.{region_start, region_size, paged, padded}
 use Rattle.cache_build.specs.Header.{cached_header}
 use Rattle.cache_build.specs.Cache.{places_of, slide_fields, text_bytes, joined, text_of, cache_of}
-use Rattle.cache_build.specs.Built.{built}
+use Rattle.cache_build.specs.Built.{contents, built}
 use Rattle.cache_build.specs.Always.{set_of, CorrespondsAlways}
 use Rattle.cache_build.specs.Breaks.{shape_break, each_file, set_break}
 use Rattle.cache_build.proofs.PlainFile.{IsPlainFile, plain_file}
 use Rattle.cache_build.proofs.PlainImage.{plain_segments, text_holds}
 use Rattle.cache_build.proofs.PlainNames.{buildable_file}
 use Rattle.cache_build.proofs.Back.{IsBuildable, paged_bounds}
-use Rattle.cache_build.proofs.BackHead.{count_is, address_is, path_is}
+use Rattle.cache_build.proofs.BackHead.{count_is, address_is, path_is, max_slide_is}
 use Rattle.cache_build.proofs.BackLayout.{length_is, behind_head}
 use Rattle.cache_build.proofs.BackPieces.{pieces_are, flat_is}
 use Rattle.cache_build.proofs.MovedSections.{moved_place}
@@ -258,16 +259,30 @@ corresponds_at file s t slides slide plain cached buildable =
         (image_of (cache_bytes file s) 0x1000, in_cache file s t plain cached buildable, image_corresponds file s t slides slide (cached_image (cache_bytes file s)) plain cached buildable)
     images (suc k) l got = absurd cc
 
+-- how far the cache of a plain file may slide
+slides_left : (file : List ℕ) (s : SegmentLoad)
+    → IsBuildable s.vmsize (image_of file 0).uuid (image_of file 0).install_name (header_in file 0) (take s.filesize (drop s.fileoff file))
+    → 0xBFE00000 ≤ max_slide (cache_bytes file s)
+slides_left file s buildable =
+    let small : s.vmsize ≤ 0x10000000 = buildable.small in
+    let room : paged s.vmsize < s.vmsize + 4096 = (paged_bounds s.vmsize).1 in
+    let most : max_slide (cache_bytes file s) ≡ region_size - (0x3000 + paged s.vmsize) = max_slide_is s.vmsize (image_of file 0).uuid (image_of file 0).install_name (header_in file 0) (take s.filesize (drop s.fileoff file)) buildable in
+    omega arith
+
 -- the cache of a file that breaks no rule corresponds to the file
 pub corresponds_always : (file : List ℕ) → length file ≤ 0x4000000 → shape_break file ≡ None → CorrespondsAlways (file ∷ []) (built (file ∷ []))
-corresponds_always file small none slides placement slide permitted =
+corresponds_always file small none =
     let told = plain_file file none in
     let s : SegmentLoad = told.0 in
     let t : SegmentLoad = told.1 in
     let plain : IsPlainFile file s t = told.2 in
     let cached : IsCachedFile file s t = cached_file file s t small plain in
-    subst (λ (c : List ℕ). Corresponds (set_of (file ∷ [])) slides c slide) (sym (built_is file s t plain))
-    (corresponds_at file s t slides slide plain cached (buildable_file file s t plain cached))
+    let buildable = buildable_file file s t plain cached in
+    subst (λ (c : List ℕ). CorrespondsAlways (file ∷ []) c) (sym (built_is file s t plain))
+    (record {
+      slides = slides_left file s buildable;
+      corresponds = λ placement placed slide permitted. corresponds_at file s t placement slide plain cached buildable;
+    })
 
 -- and so does the cache of a set of one file that breaks no rule
 pub set_corresponds : (file : List ℕ) → length file ≤ 0x4000000 → set_break (file ∷ []) ≡ None → CorrespondsAlways (file ∷ []) (built (file ∷ []))
@@ -277,3 +292,9 @@ set_corresponds file small none = corresponds_always file small (alone (shape_br
     alone : (o : Option Site) → option_or {T = Break} (option_map {T = Site} {U = Break} (λ (s : Site). record { rule = s.rule; image = 0; at = s.at }) o) None ≡ None → o ≡ None
     alone None none = refl
     alone (Some s) some = absurd cc
+
+-- and so do the caches of sets
+pub files_correspond : (files : List (Vec ℕ Global)) → length files ≡ 1 → All (λ (f : Vec ℕ Global). length f.items ≤ 0x4000000) files → set_break (contents files) ≡ None → CorrespondsAlways (contents files) (built (contents files))
+files_correspond [] one small none = absurd (omega arith)
+files_correspond (f ∷ []) one small none = set_corresponds f.items (small 0 f (omega arith)) none
+files_correspond (f ∷ g ∷ files) one small none = absurd (omega arith)

@@ -1,5 +1,5 @@
 -- A cache corresponds to its files wherever they are loaded, and at every slide that its header permits.
-use Rattle.std.specs.Prelude.{ℕ, List, map}
+use Rattle.std.specs.Prelude.{◌≤◌, ℕ, List, map}
 use Rattle.macho_image.specs.Macho.{image_of}
 use Rattle.load_model.specs.Loading.{Linked, linked, IsPlacement}
 use Rattle.load_model.specs.Head.{max_slide}
@@ -10,6 +10,8 @@ use Rattle.load_model.specs.Corresponds.{Corresponds}
 abbrev pub set_of : List (List ℕ) → List Linked
 set_of files = map (λ (file : List ℕ). linked (image_of file 0)) files
 
-abbrev pub CorrespondsAlways : List (List ℕ) → List ℕ → Type 0
-CorrespondsAlways files cache =
-    (slides : ℕ → ℕ) → IsPlacement slides → (slide : ℕ) → IsPermitted (max_slide cache) slide → Corresponds (set_of files) slides cache slide
+-- The header permits at least the slides up to 0xBFE00000, which leaves room for 512 MiB of cache.
+pub record CorrespondsAlways (files : List (List ℕ)) (cache : List ℕ) : Type 0 where
+  pub slides : 0xBFE00000 ≤ max_slide cache
+  pub corresponds : (placement : ℕ → ℕ) → IsPlacement placement → (slide : ℕ) → IsPermitted (max_slide cache) slide
+      → Corresponds (set_of files) placement cache slide

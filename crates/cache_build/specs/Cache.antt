@@ -5,7 +5,7 @@ use Rattle.dsc_base.specs.declared.fields.Field.{Field}
 use Rattle.dsc_base.specs.declared.fields.Field.TheVariants.{U32, U64}
 use Rattle.macho_image.specs.Records.{Seg, Img}
 use Rattle.cache_build.specs.declared.header.SegmentMove.{SegmentMove}
-use Rattle.cache_build.specs.Layout.{region_start, paged, padded}
+use Rattle.dsc_base.specs.Region.{region_start, paged, padded}
 use Rattle.cache_build.specs.Header.{cached_header}
 use Rattle.cache_build.specs.Head.{head_of}
 use Rattle.cache_build.specs.Identifier.{identifier_of}

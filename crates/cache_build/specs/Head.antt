@@ -3,7 +3,7 @@ use Rattle.std.specs.Prelude.{ℕ, ◌+◌, ◌-◌, List, [], ◌∷◌, ◌++�
 use Rattle.dsc_base.specs.Fields.{spelled}
 use Rattle.dsc_base.specs.declared.fields.Field.{Field}
 use Rattle.dsc_base.specs.declared.fields.Field.TheVariants.{U32, U64, Identifier, Zeros}
-use Rattle.cache_build.specs.Layout.{region_start, region_size}
+use Rattle.dsc_base.specs.Region.{region_start, region_size}
 
 -- "dyld_v1  x86_64" and a NUL
 abbrev pub magic : List ℕ

@@ -4,7 +4,7 @@ use Rattle.std.specs.List.{concat}
 use Rattle.dsc_base.specs.Numbers.{number_at, put_number}
 use Rattle.macho_image.specs.Macho.{number_of, is_segment, commands_of}
 use Rattle.cache_build.specs.declared.header.SegmentMove.{SegmentMove}
-use Rattle.cache_build.specs.Layout.{region_start}
+use Rattle.dsc_base.specs.Region.{region_start}
 
 -- S_ZEROFILL, S_GB_ZEROFILL and S_THREAD_LOCAL_ZEROFILL
 abbrev pub is_zero_fill : ℕ → Bool

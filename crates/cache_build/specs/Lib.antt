@@ -5,5 +5,4 @@ pub mod Cache
 pub mod Head
 pub mod Header
 pub mod Identifier
-pub mod Layout
 pub mod Plain

@@ -2,14 +2,13 @@
 ghost use Rattle.std.specs.Prelude.{◌≡◌, ◌≤◌, ◌<◌, ◌+◌, ◌-◌, ◌++◌, ◌∷◌, [], None, length, drop, replicate, OnOk, IfOk};
 ghost use Rattle.dsc_base.specs.Fields.{spelled};
 ghost use Rattle.macho_image.specs.Rules.{breaks_command_shape};
-ghost use Rattle.cache_build.specs.Layout.{paged, padded};
+ghost use Rattle.dsc_base.specs.Region.{paged, padded};
 ghost use Rattle.cache_build.specs.Cache.{places_of, slide_fields, text_bytes, joined};
 
 use crate::head::cache_head;
 use crate::header::{SegmentMove, cached_header};
 use crate::identifier::cache_identifier;
-use crate::layout::{PAGE, REGION_START, page_up};
-use dsc_base::{Field, NoMemory, spell_fields};
+use dsc_base::{Field, NoMemory, PAGE, REGION_START, page_up, spell_fields};
 use std::alloc::Global;
 
 /// What a cache of one image is made of: its path, its identifier, its header with all commands, and the

@@ -114,7 +114,7 @@ pub fn build<R: Threads, G: Gate + Sync>(
     requires bits { options.now.delta_bits ≡ 16 }
     ensures cache { IfOk result (λ c. c.items ≡ built (contents files.now)) }
     ensures unbroken { OnOk result (set_break (contents files.now) ≡ None) }
-    ensures corresponds { OnOk result (CorrespondsAlways (contents files.now) (built (contents files.now))) }
+    ensures corresponds { set_break (contents files.now) ≡ None → CorrespondsAlways (contents files.now) (built (contents files.now)) }
     ensures cause { IfErr result (IsSetRefusal (set_break (contents files.now))) }
 {
     let file = files[0].as_slice();

@@ -3,8 +3,7 @@ ghost use Rattle.std.specs.Prelude.{◌≡◌, ◌≤◌, ◌+◌, IfOk};
 ghost use Rattle.dsc_base.specs.Fields.{spelled};
 ghost use Rattle.cache_build.specs.Head.{header_fields, mapping_fields, mapping_table, image_tables, head_of};
 
-use crate::layout::{PAGE, REGION_SIZE, REGION_START};
-use dsc_base::{Field, NoMemory, spell_fields};
+use dsc_base::{Field, NoMemory, PAGE, REGION_SIZE, REGION_START, spell_fields};
 use std::alloc::Global;
 
 const MAGIC: [u8; 16] = *b"dyld_v1  x86_64\0";

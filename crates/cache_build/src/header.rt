@@ -5,8 +5,7 @@ ghost use Rattle.macho_image.specs.Macho.{number_of, size_of, is_segment, header
 ghost use Rattle.macho_image.specs.Rules.{breaks_command_shape};
 ghost use Rattle.cache_build.specs.Header.{is_zero_fill, section_offset, moved_section, moved_fields, moved_segment, moved_sections, moved_command, places_behind, shift_of, cached_front, cached_header};
 
-use crate::layout::REGION_START;
-use dsc_base::{NoMemory, get_u32, get_u64, put_u32, put_u64};
+use dsc_base::{NoMemory, REGION_START, get_u32, get_u64, put_u32, put_u64};
 use std::alloc::Global;
 
 /// LC_SEGMENT_64.

@@ -6,7 +6,6 @@ mod builder;
 mod head;
 mod header;
 mod identifier;
-mod layout;
 mod not_yet;
 
 pub use builder::{Options, build};

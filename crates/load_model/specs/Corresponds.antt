@@ -1,19 +1,15 @@
 -- A mapped cache corresponds to files that are loaded separately.
-use Rattle.std.specs.Prelude.{◌≡◌, ◌<◌, ℕ, ◌+◌, ◌-◌, nat_lt, nat_eq, if◌then◌else◌, List, [], ◌∷◌, ◌++◌, length, map, filter, not, Option, Some, None, option_map, slice_get, ◌⊎◌, Bool, codes}
+use Rattle.std.specs.Prelude.{◌≡◌, ◌<◌, ℕ, ◌+◌, ◌-◌, ◌*◌, ◌^◌, nat_lt, nat_eq, if◌then◌else◌, List, [], ◌∷◌, ◌++◌, length, filter, not, Option, Some, None, slice_get, ◌⊎◌}
 use Rattle.std.specs.List.{flat_map}
 use Rattle.dsc_base.specs.Numbers.{big_number}
 use Rattle.macho_image.specs.Records.{Seg, Img}
-use Rattle.macho_image.specs.Rules.{same_bytes}
+use Rattle.macho_image.specs.Rules.{is_linkedit_segment}
 use Rattle.macho_image.specs.declared.section.Section.{Section}
 use Rattle.load_model.specs.Memory.{Cells, wrap, above, HasNumber}
-use Rattle.load_model.specs.Words.{Target, Word, Starts, LeadsTo, width_of, Exported, ExportTarget, Offset, Absolute, Reexport}
-use Rattle.load_model.specs.Loading.{Linked, linked, loaded, loaded_starts, segment_start}
+use Rattle.load_model.specs.Words.{Word, Starts, LeadsTo, width_of, Exported, ExportTarget, Offset, Absolute, Reexport}
+use Rattle.load_model.specs.Loading.{Linked, linked, loaded, loaded_starts}
 use Rattle.load_model.specs.Head.{image_count, image_path}
 use Rattle.load_model.specs.Mapped.{mapped, cached_image}
-
--- the segment that holds the streams and tables
-abbrev pub is_linkedit : Seg → Bool
-is_linkedit s = same_bytes s.name (codes "__LINKEDIT" ++ (0 ∷ 0 ∷ 0 ∷ 0 ∷ 0 ∷ 0 ∷ []))
 
 -- The shape of an image, as a list of numbers: how many segments it has besides __LINKEDIT; for each of
 -- them its name, size, protection and number of sections; and for each of its sections the name, the
@@ -32,10 +28,10 @@ segment_shape segment sections =
 abbrev pub shapes_from : Img → ℕ → List Seg → List ℕ
 shapes_from image g [] = []
 shapes_from image g (s ∷ ss) =
-    (if is_linkedit s then [] else segment_shape s (sections_of image g)) ++ shapes_from image (g + 1) ss
+    (if is_linkedit_segment s then [] else segment_shape s (sections_of image g)) ++ shapes_from image (g + 1) ss
 
 unfoldable pub shape_of : Img → List ℕ
-shape_of image = length (filter (λ (s : Seg). not (is_linkedit s)) image.segments) ∷ shapes_from image 0 image.segments
+shape_of image = length (filter (λ (s : Seg). not (is_linkedit_segment s)) image.segments) ∷ shapes_from image 0 image.segments
 
 -- the address of the header, which begins the first segment
 abbrev pub header_address : Img → ℕ
@@ -55,7 +51,8 @@ place_in image x = place_from 0 image.segments x
 
 -- two exports lead to the same: the same place, the same number, or the same symbol of the same dependency
 abbrev pub SameTarget : Img → Img → ExportTarget → ExportTarget → Type 0
-SameTarget file cached (Offset o) (Offset p) = place_in file (wrap (header_address file + o)) ≡ place_in cached (wrap (header_address cached + p))
+SameTarget file cached (Offset o) (Offset p) =
+    (place : ℕ × ℕ) × (place_in file (wrap (header_address file + o)) ≡ Some place) × (place_in cached (wrap (header_address cached + p)) ≡ Some place)
 SameTarget file cached (Absolute v) (Absolute w) = v ≡ w
 SameTarget file cached (Reexport ordinal name) (Reexport other text) = (ordinal ≡ other) × (name ≡ text)
 SameTarget file cached _ _ = ⊥
@@ -81,6 +78,7 @@ IsWordOf (v ∷ vs) w = (w ≡ v) ⊎ IsWordOf vs w
 -- the number at a word is there and leads to the word's target
 pub record Leads (cells : Cells) (starts : Starts) (location header : ℕ) (w : Word) : Type 0 where
   pub number : ℕ
+  pub fits : number < 2 ^ (8 * width_of w.kind)
   pub there : HasNumber (width_of w.kind) cells location number
   pub leads : LeadsTo starts w.kind location header number w.target
 

@@ -1,6 +1,7 @@
 -- Mapping a cache at a slide, and the images that a mapped cache holds.
-use Rattle.std.specs.Prelude.{◌≡◌, ◌≤◌, ℕ, ◌+◌, ◌*◌, List, [], ◌∷◌, ◌++◌, take, drop, map, Option}
+use Rattle.std.specs.Prelude.{◌≡◌, ◌≤◌, ℕ, ◌+◌, ◌*◌, List, [], ◌∷◌, take, drop, map, Option}
 use Rattle.std.specs.List.{flat_map}
+use Rattle.dsc_base.specs.Region.{region_start}
 use Rattle.macho_image.specs.Records.{Img}
 use Rattle.macho_image.specs.Breaks.{image_at}
 use Rattle.macho_image.specs.declared.form.Form.TheVariants.{Cached}
@@ -39,10 +40,6 @@ mapped cache slide = cells_of slide (pieces_of cache slide)
 -- the bytes of the cache mapped at slide 0, in file order
 unfoldable pub flat : List ℕ → List ℕ
 flat cache = flat_map (λ (p : Piece). p.bytes) (pieces_of cache 0)
-
--- where the shared region starts, as dyld has it for x86_64
-abbrev pub region_start : ℕ
-region_start = 0x7FFF20000000
 
 -- image k of a cache: the Mach-O image whose header is at the address of entry k of the image table
 unfoldable pub cached_image : List ℕ → ℕ → Option Img

@@ -43,12 +43,12 @@ Starts = ℕ → ℕ → ℕ
 abbrev pub LeadsTo : Starts → WordKind → ℕ → ℕ → ℕ → Target → Type 0
 LeadsTo starts kind location header n (Place image segment distance) =
     address_led_to kind location header n ≡ wrap (starts image segment + distance)
-LeadsTo starts kind location header n (Constant c) = n ≡ c
+LeadsTo starts kind location header n (Constant c) = n ≡ wrap c
 
 -- the number of a pointer that leads to a target
 abbrev pub number_to : Starts → Target → ℕ
 number_to starts (Place image segment distance) = wrap (starts image segment + distance)
-number_to starts (Constant c) = c
+number_to starts (Constant c) = wrap c
 
 -- what an export's terminal spells: an offset from the header, a number, or a symbol of a dependency
 pub data ExportTarget : Type 0 where

@@ -1,8 +1,6 @@
-use Rattle.std.proofs.Common.{List, ℕ, sym, subst}
-use Rattle.cache_build.specs.Built.{contents, built}
-use Rattle.cache_build.specs.Always.{CorrespondsAlways}
-use Rattle.cache_build.proofs.Theorem.{corresponds_always}
+use Rattle.cache_build.specs.Built.{contents}
 use Rattle.cache_build.proofs.BuiltLaws.{one_file, one_small, image_plain, built_one, set_none, set_refused}
+use Rattle.cache_build.proofs.Theorem.{files_correspond}
 use Rattle.cache_build.proofs.builder.build.Goals as goal
 
 pub image_cache-requires : goal.image_cache-requires
@@ -29,10 +27,11 @@ returns-in-Err-clause-cause g c =
     (one_file c.args.files.now c.index-files-0.result c.as_slice-file.result.now c.requires.one c.index-files-0.is c.as_slice-file.ensures.value)
     c.in-Err.ensures.cause c.of_image.ensures
 
+pub returns-in_err-cache-in-Ok-clause-corresponds : goal.returns-in_err-cache-in-Ok-clause-corresponds
+returns-in_err-cache-in-Ok-clause-corresponds g c = λ none. files_correspond c.args.files.now c.requires.one c.requires.sizes none
+
 pub returns-in_ok-cache-in-Ok-clause-corresponds : goal.returns-in_ok-cache-in-Ok-clause-corresponds
-returns-in_ok-cache-in-Ok-clause-corresponds g c =
-    subst (λ (files : List (List ℕ)). CorrespondsAlways files (built files))
-    (sym (one_file c.args.files.now c.index-files-0.result c.as_slice-file.result.now c.requires.one c.index-files-0.is c.as_slice-file.ensures.value))
-    (corresponds_always c.as_slice-file.result.now
-    (one_small c.args.files.now c.index-files-0.result c.as_slice-file.result.now c.requires.one c.index-files-0.is c.as_slice-file.ensures.value c.requires.sizes)
-    c.in-Ok.ensures.unbroken)
+returns-in_ok-cache-in-Ok-clause-corresponds g c = λ none. files_correspond c.args.files.now c.requires.one c.requires.sizes none
+
+pub returns-in-Err-clause-corresponds : goal.returns-in-Err-clause-corresponds
+returns-in-Err-clause-corresponds g c = λ none. files_correspond c.args.files.now c.requires.one c.requires.sizes none
