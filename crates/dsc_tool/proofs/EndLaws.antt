@@ -11,11 +11,10 @@ use Rattle.dsc_tool.specs.declared.stop.Stop.TheVariants.{BadWords as NoCommand,
 use Rattle.dsc_tool.specs.Causes.{IsDue}
 use Rattle.dsc_tool.specs.Ran.{IsDone, IsStopped, IsUntold, IsCutShort, Ends}
 use Rattle.dsc_tool.specs.Statuses.{status_of}
-use Rattle.dsc_tool.specs.Steps.{IsProductOf, IsProduct, Tells, TellsStop, IsDelivered, IsUndelivered, IsUnput, Delivers}
+use Rattle.dsc_tool.specs.Steps.{IsProductOf, IsProduct, Tells, TellsStop, IsDelivered, IsFilePart, IsLinePart, IsUndelivered, IsUnput, Delivers}
 use Rattle.dsc_tool.specs.Streams.{World, appended}
 use Rattle.dsc_tool.specs.Texts.{text_of, built_line}
 use Rattle.dsc_tool.specs.Words.{Order}
-use Rattle.dsc_tool.proofs.PrefixLaws.{prefix-none, file-whole}
 
 -- the product's file and line are those of the accepted input
 file_of : (files : Option Files) (order : Order) (bytes : List ℕ) (p : Product) → IsProductOf order bytes p
@@ -39,17 +38,27 @@ done words before after gets p (order, bytes, accepted, is) all =
       err = all.err;
     }
 
--- the told files where a prefix of the product's cache, or all of it, was put
-left : (before after : Option Files) (order : Order) (bytes : List ℕ) (p : Product) → IsProductOf order bytes p
-    → LeavesPrefix before after p.name p.cache.items ⊎ (after ≡ with_file before p.name p.cache.items) → LeavesPrefix before after order.out (built (bytes ∷ []))
-left before after order bytes p is (inl part) =
-    subst (λ (c : List ℕ). LeavesPrefix before after order.out c) is.cache (subst (λ (n : List ℕ). LeavesPrefix before after n p.cache.items) is.name part)
-left before after order bytes p is (inr whole) =
-    inr (length (built (bytes ∷ [])), whole ∙ (file_of before order bytes p is ∙ file-whole before order.out (built (bytes ∷ []))))
+-- the part of the product that was put is that part of the input's cache and line
+part_of : (before after : World) (order : Order) (bytes : List ℕ) (p : Product) → IsProductOf order bytes p
+    → IsFilePart before after p.name p.cache.items ⊎ IsLinePart before after p.name p.cache.items (string_bytes p.line)
+    → IsFilePart before after order.out (built (bytes ∷ [])) ⊎ IsLinePart before after order.out (built (bytes ∷ [])) (built_line 1 (length (built (bytes ∷ []))))
+part_of before after order bytes p is (inl part) = inl (record {
+  fault = part.fault;
+  files = subst (λ (c : List ℕ). LeavesPrefix before.files after.files order.out c) is.cache (subst (λ (n : List ℕ). LeavesPrefix before.files after.files n p.cache.items) is.name part.files);
+  out = part.out;
+})
+part_of before after order bytes p is (inr part) = inr (record {
+  fault = part.fault;
+  files = part.files ∙ file_of before.files order bytes p is;
+  out = subst (λ (l : List ℕ). AppendsPrefix before.out l after.out) (line_of order bytes p is) part.out;
+})
 
-printed : (before after : Option (List ℕ)) (line line' : List ℕ) → line ≡ line' → (after ≡ before) ⊎ AppendsPrefix before line after → AppendsPrefix before line' after
-printed before after line line' is (inl same) = prefix-none before after line' same
-printed before after line line' is (inr part) = subst (λ (l : List ℕ). AppendsPrefix before l after) is part
+-- the count of failed gets has no part in it
+same_gets : (before after : World) (gets : ℕ) (name bytes line : List ℕ)
+    → IsFilePart (record before { get_faults = gets }) after name bytes ⊎ IsLinePart (record before { get_faults = gets }) after name bytes line
+    → IsFilePart before after name bytes ⊎ IsLinePart before after name bytes line
+same_gets before after gets name bytes line (inl part) = inl (record { fault = part.fault; files = part.files; out = part.out })
+same_gets before after gets name bytes line (inr part) = inr (record { fault = part.fault; files = part.files; out = part.out })
 
 cut_short : (words : List (List ℕ)) (before after : World) (gets : ℕ) (p : Product) → IsProduct words before.files p
     → IsUndelivered p (record before { get_faults = gets }) after → IsCutShort words before after
@@ -58,9 +67,7 @@ cut_short words before after gets p (order, bytes, accepted, is) some =
       order = order;
       bytes = bytes;
       accepted = accepted;
-      fault = some.cause;
-      files = left before.files after.files order bytes p is some.files;
-      out = printed before.out after.out (string_bytes p.line) _ (line_of order bytes p is) some.out;
+      part = same_gets before after gets order.out (built (bytes ∷ [])) (built_line 1 (length (built (bytes ∷ [])))) (part_of (record before { get_faults = gets }) after order bytes p is some.part);
       err = some.err;
     }
 

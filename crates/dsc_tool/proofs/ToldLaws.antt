@@ -13,7 +13,7 @@ use Rattle.dsc_tool.specs.Statuses.{status_of}
 use Rattle.dsc_tool.specs.Streams.{World, AnyRose, appended}
 use Rattle.dsc_tool.specs.Texts.{text_of, cannot_write_line}
 use Rattle.dsc_tool.specs.Words.{Order, command_of}
-use Rattle.dsc_tool.proofs.OutputLaws.{output-accepted, output-bad_words, output-refused, output-unread}
+use Rattle.dsc_tool.proofs.OutputLaws.{output-accepted, output-broken, output-bad_words, output-refused, output-unread}
 use Rattle.dsc_tool.proofs.PrefixLaws.{appended-none, prefix-none, prefix-whole}
 
 -- the cause of a stop, over told files
@@ -34,6 +34,7 @@ exact words files before after status o =
       settled = λ _. o;
       quiet = λ _. inr o;
       complete = λ order bytes accepted _. inr (subst (λ (e : Outcome). IsOutcome e before after status) (output-accepted words files order bytes accepted) o);
+      refuses = λ order bytes b read is _. inr (subst (λ (e : Outcome). IsOutcome e before after status) (output-broken words files order bytes b read is) o);
       printed = prefix-whole before.out after.out (output words files).out o.out;
       printed_all = λ _. o.out;
       told = ((output words files).err, inl refl, prefix-whole before.err after.err (output words files).err o.err);
@@ -76,6 +77,7 @@ unsettled words files before after status never other why same told =
       settled = λ is. absurd (never is);
       quiet = λ still. excused _ before after status why still;
       complete = λ _ _ _ still. excused _ before after status why still;
+      refuses = λ _ _ _ _ _ still. excused _ before after status why still;
       printed = prefix-none before.out after.out (output words files).out same;
       printed_all = printed_none words files before after status other same;
       told = told;
@@ -112,12 +114,14 @@ cut_told : (words : List (List ℕ)) (files : Files) (before after : World) → 
     → IsByOutput words files before after WriteFault
 cut_told words files before after told cut =
     let done = output-accepted words files cut.order cut.bytes (accepted_told words files before cut.order cut.bytes told cut.accepted) in
-    let rose : (WriteFault ≡ Memory) ⊎ AnyRose before after = elim cut.fault [ inl put ↦ inr (inl (inr put)) | inr line ↦ inr (inr (inl line)) ] in
+    let rose : (WriteFault ≡ Memory) ⊎ AnyRose before after = elim cut.part [ inl file ↦ inr (inl (inr file.fault)) | inr line ↦ inr (inr (inl line.fault)) ] in
     record {
       settled = λ never. absurd never;
       quiet = λ still. excused _ before after WriteFault rose still;
       complete = λ _ _ _ still. excused _ before after WriteFault rose still;
-      printed = subst (λ (o : Outcome). AppendsPrefix before.out o.out after.out) (sym done) cut.out;
+      refuses = λ _ _ _ _ _ still. excused _ before after WriteFault rose still;
+      printed = subst (λ (o : Outcome). AppendsPrefix before.out o.out after.out) (sym done)
+          (elim cut.part [ inl file ↦ prefix-none before.out after.out _ file.out | inr line ↦ line.out ]);
       printed_all = λ is. absurd (let never : WriteFault ≡ Done = is ∙ ap (λ (o : Outcome). o.status) done in cc);
       told = (cannot_write_line, inr (inr (inl refl)), elim cut.err [ inl all ↦ prefix-whole before.err after.err cannot_write_line all.1 | inr part ↦ part.2 ]);
     }

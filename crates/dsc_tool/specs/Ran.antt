@@ -1,7 +1,7 @@
 -- What is so after a run, by the status that it answered.
-use Rattle.std.specs.Prelude.{◌≡◌, ◌⊎◌, ℕ, List, [], ◌∷◌, length, Option, Some, None, Ok}
+use Rattle.std.specs.Prelude.{◌≡◌, ◌⊎◌, ℕ, List, [], ◌∷◌, length, Option, Some, None, Ok, Err}
 use Rattle.std.specs.FinMap.{get, insert}
-use Rattle.dsc_base.specs.Outside.{Files, Rose, LeavesPrefix, AppendsPrefix, with_file}
+use Rattle.dsc_base.specs.Outside.{Files, Rose, AppendsPrefix, with_file}
 use Rattle.dsc_base.specs.declared.fault.Break.{Break}
 use Rattle.cache_build.specs.Breaks.{set_break}
 use Rattle.cache_build.specs.Always.{CorrespondsAlways}
@@ -10,9 +10,9 @@ use Rattle.dsc_tool.specs.declared.status.Status.{Status}
 use Rattle.dsc_tool.specs.declared.status.Status.TheVariants.{Done, Refused, BadWords, ReadFault, WriteFault, Memory, Differs}
 use Rattle.dsc_tool.specs.declared.stop.Stop.{Stop}
 use Rattle.dsc_tool.specs.declared.stop.Stop.TheVariants.{BadWords as NoCommand, Unread, Refused as Broken, Memory as NoMemory}
-use Rattle.dsc_tool.specs.Causes.{IsAccepted, IsDue}
+use Rattle.dsc_tool.specs.Causes.{IsRead, IsAccepted, IsDue}
 use Rattle.dsc_tool.specs.Output.{Outcome, outcome_of, output}
-use Rattle.dsc_tool.specs.Steps.{Tells}
+use Rattle.dsc_tool.specs.Steps.{Tells, IsFilePart, IsLinePart}
 use Rattle.dsc_tool.specs.Streams.{World, AnyRose, appended}
 use Rattle.dsc_tool.specs.Texts.{text_of, built_line, cannot_read_line, cannot_write_line, no_memory_line}
 use Rattle.dsc_tool.specs.Words.{Order, command_of}
@@ -48,9 +48,8 @@ pub record IsCutShort (words : List (List ℕ)) (before after : World) : Type 0 
   pub order : Order
   pub bytes : List ℕ
   pub accepted : IsAccepted words before.files order bytes
-  pub fault : Rose before.put_faults after.put_faults ⊎ Rose before.out_faults after.out_faults
-  pub files : LeavesPrefix before.files after.files order.out (built (bytes ∷ []))
-  pub out : AppendsPrefix before.out (built_line 1 (length (built (bytes ∷ [])))) after.out
+  pub part : IsFilePart before after order.out (built (bytes ∷ []))
+      ⊎ IsLinePart before after order.out (built (bytes ∷ [])) (built_line 1 (length (built (bytes ∷ []))))
   pub err : Tells cannot_write_line WriteFault before.err before.err_faults after.err after.err_faults WriteFault
 
 -- what is so after each status, over every store and sink
@@ -93,6 +92,9 @@ pub record IsByOutput (words : List (List ℕ)) (files : Files) (before after : 
   -- so an accepted input is built, where nothing has failed
   pub complete : (order : Order) (bytes : List ℕ) → IsAccepted words (Some files) order bytes → (AnyRose before after → ⊥)
       → (status ≡ Memory) ⊎ IsOutcome (outcome_of files (Ok record { name = order.out; cache = built (bytes ∷ []) })) before after status
+  -- and an input that breaks a rule is refused by the first one, where nothing has failed
+  pub refuses : (order : Order) (bytes : List ℕ) (b : Break) → IsRead words (Some files) order bytes → set_break (bytes ∷ []) ≡ Some b → (AnyRose before after → ⊥)
+      → (status ≡ Memory) ⊎ IsOutcome (outcome_of files (Err (Broken b))) before after status
   -- standard output has a prefix of the output's line, and all of it where the status is the output's
   pub printed : AppendsPrefix before.out (output words files).out after.out
   pub printed_all : status ≡ (output words files).status → after.out ≡ appended before.out (output words files).out

@@ -37,11 +37,21 @@ pub record IsDelivered (p : Product) (before after : World) : Type 0 where
   pub out : after.out ≡ appended before.out (string_bytes p.line)
   pub err : after.err ≡ before.err
 
+-- the store failed to take all of these bytes, and nothing was printed on standard output
+pub record IsFilePart (before after : World) (name bytes : List ℕ) : Type 0 where
+  pub fault : Rose before.put_faults after.put_faults
+  pub files : LeavesPrefix before.files after.files name bytes
+  pub out : after.out ≡ before.out
+
+-- the store took all of these bytes, and standard output failed to take all of the line
+pub record IsLinePart (before after : World) (name bytes line : List ℕ) : Type 0 where
+  pub fault : Rose before.out_faults after.out_faults
+  pub files : after.files ≡ with_file before.files name bytes
+  pub out : AppendsPrefix before.out line after.out
+
 -- the cache or the line was not put, and this was told if it could be
 pub record IsUndelivered (p : Product) (before after : World) : Type 0 where
-  pub cause : Rose before.put_faults after.put_faults ⊎ Rose before.out_faults after.out_faults
-  pub files : LeavesPrefix before.files after.files p.name p.cache.items ⊎ (after.files ≡ with_file before.files p.name p.cache.items)
-  pub out : (after.out ≡ before.out) ⊎ AppendsPrefix before.out (string_bytes p.line) after.out
+  pub part : IsFilePart before after p.name p.cache.items ⊎ IsLinePart before after p.name p.cache.items (string_bytes p.line)
   pub err : Tells cannot_write_line WriteFault before.err before.err_faults after.err after.err_faults WriteFault
 
 -- memory was wanting for the put, and this was told if it could be

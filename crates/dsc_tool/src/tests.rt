@@ -1,8 +1,9 @@
 use crate::{Status, run};
 use dsc_base::{
-    Field, GetFault, MemSink, MemStore, NoMemory, OpenGate, PutFault, SoundStore, Store, read_u64,
-    spell_fields,
+    Field, GetFault, MemSink, MemStore, NoMemory, OpenGate, PutFault, SoundStore, Store, put_u32,
+    read_u64, spell_fields,
 };
+use macho_image::{Form, read_image};
 use std::alloc::{AllocError, Global};
 use std::test::Fail;
 use std::thread::Threads;
@@ -294,6 +295,15 @@ fn a_plain_dylib_is_built(rt: HostRuntime) -> Result<(), Fail> {
     for (at, want) in CACHE_NUMBERS {
         assert_eq!(rt; read_u64(&cache, at), Some(want), "at {at:x}");
     }
+    let image = read_image(alloc, &cache, 0x1000, Form::Cached)
+        .ok()
+        .ok_or("the cached dylib is read")?;
+    assert_eq!(rt; image.install_name, b"/a.dylib".as_slice());
+    let starts: Vec<u64> = image.segments.iter().map(|s| s.vmaddr).collect(alloc)?;
+    assert_eq!(rt;
+        starts.as_slice(),
+        [0x7FFF_2000_1000, 0x7FFF_2000_3000].as_slice()
+    );
     // A put that fails leaves what it took, and standard output that fails leaves the cache.
     store.fail_at(1, 100)?;
     let answer = run_line(&rt, alloc, "build d A", &mut store, 99, 99)?;
@@ -309,22 +319,60 @@ fn a_plain_dylib_is_built(rt: HostRuntime) -> Result<(), Fail> {
     Ok(())
 }
 
+// Numbers of four bytes to set in the dylib with data, each with its place.
+fn put_all(file: &mut [u8], numbers: &[(usize, u32)]) {
+    for (place, value) in numbers {
+        if *place < file.len() && file.len() - *place >= 4 {
+            put_u32(file, *place, *value);
+        }
+    }
+}
+
+// A second install name behind the other commands.
+const SECOND_NAME: [(usize, u32); 7] = [
+    (0x10, 7),
+    (0x14, 0x208),
+    (0x200, 0xD),
+    (0x204, 40),
+    (0x208, 24),
+    (0x218, 0x642E_612F),
+    (0x21C, 0x6269_6C79),
+];
+
+// Numbers set in the dylib with data, how much of it there is, and what is said of it.
+const REFUSED: [(&[(usize, u32)], usize, &str); 8] = [
+    (&[], 0x2040, "190 NotYet image 0 at 0xb8"),
+    (&[], 0x100, "6 CommandShape image 0 at 0x14"),
+    (&[], 0x200, "10 SegmentShape image 0 at 0x20"),
+    (&[], 0x2003, "10 SegmentShape image 0 at 0x150"),
+    (&[], 0, "3 NotMachO image 0 at 0x0"),
+    (
+        &[(0x1CC, 0x41)],
+        0x2040,
+        "17 LinkeditRange image 0 at 0x1c0",
+    ),
+    (
+        &[(0x1F0, 0x8000_0034)],
+        0x2040,
+        "7 UnknownCommand image 0 at 0x1f0",
+    ),
+    (&SECOND_NAME, 0x2040, "8 CommandTwice image 0 at 0x200"),
+];
+
 #[test]
 fn other_files_are_refused(rt: HostRuntime) -> Result<(), Fail> {
     let alloc = rt.alloc();
-    for (length, want) in [
-        (0x2040, "dsc: refused 190 NotYet image 0 at 0xb8\n"),
-        (0x100, "dsc: refused 6 CommandShape image 0 at 0x14\n"),
-        (0, "dsc: refused 3 NotMachO image 0 at 0x0\n"),
-    ] {
+    for (numbers, length, want) in REFUSED {
         let mut file = data_dylib(alloc)?;
+        put_all(&mut file, numbers);
         file.truncate(length);
         let mut store = SoundStore::new(alloc);
         store.insert("A", file)?;
         let answer = run_line(&rt, alloc, "build c A", &mut store, 99, 99)?;
-        assert_eq!(rt; answer.status, Status::Refused, "{length}");
-        assert_eq!(rt; answer.err.bytes(), want.as_bytes(), "{length}");
-        assert_eq!(rt; store.file("c"), None, "{length}");
+        let text = format!(in alloc; "dsc: refused {want}\n")?;
+        assert_eq!(rt; answer.status, Status::Refused, "{want}");
+        assert_eq!(rt; answer.err.bytes(), text.as_bytes(), "{want}");
+        assert_eq!(rt; store.file("c"), None, "{want}");
     }
     Ok(())
 }
