@@ -1,0 +1,13 @@
+pub mod Back
+pub mod BackHead
+pub mod BackImages
+pub mod EntryLaws
+pub mod FindingLaws
+pub mod HeadLaws
+pub mod IdentifierLaws
+pub mod NameLaws
+pub mod PathLaws
+pub mod PlaceLaws
+pub mod SoundLaws
+pub mod TableLaws
+pub mod ToldLaws

@@ -1,0 +1,7 @@
+pub mod Findings
+pub mod Identifier
+pub mod Paths
+pub mod Reading
+pub mod Records
+pub mod Spelling
+pub mod Widths
