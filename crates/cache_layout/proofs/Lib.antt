@@ -1,0 +1,10 @@
+pub mod BreakLaws
+pub mod HeadLaws
+pub mod MoveLaws
+pub mod NumberedLaws
+pub mod PartLaws
+pub mod PlaceLaws
+pub mod RoomLaws
+pub mod SoundLaws
+pub mod SpaceLaws
+pub mod SpanLaws

@@ -1,0 +1,5 @@
+pub mod Apart
+pub mod Layouts
+pub mod Parts
+pub mod Places
+pub mod Rooms
