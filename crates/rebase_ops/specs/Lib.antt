@@ -1,0 +1,4 @@
+pub mod Opcodes
+pub mod Order
+pub mod Places
+pub mod Rebases

@@ -1,0 +1,13 @@
+//! Rebase opcode streams of Mach-O images, which tell the pointers to which loading adds the slide, after
+//! the `REBASE_OPCODE_` numbers of `mach-o/loader.h` of Apple's published sources.
+#![tactic(auto)]
+
+mod close;
+mod opcode;
+mod place;
+mod read;
+mod run;
+#[cfg(test)]
+mod tests;
+
+pub use read::read_rebases;

@@ -1,0 +1,94 @@
+// What one opcode records, and where the next one begins.
+ghost use Rattle.std.specs.Prelude.{◌≡◌, ◌++◌, ◌+◌, ◌*◌, length, map, option_map, IfOk, OnOk};
+ghost use Rattle.macho_image.specs.Refuses.{Refuses};
+ghost use Rattle.rebase_ops.specs.Places.{wrap, location};
+ghost use Rattle.rebase_ops.specs.Rebases.{progression, recorded, moved, first_fault, rule_of, site_of};
+
+use crate::opcode::Opcode;
+use crate::place::{PlaceFault, locate};
+use dsc_base::{Fault, Rule, Site};
+use macho_image::{Image, Location};
+
+/// The segment that is set, and the offset of the next record from its start.
+#[derive(Clone, Copy)]
+pub(crate) struct Cursor {
+    pub segment: Option<u32>,
+    pub offset: u64,
+}
+
+impl PlaceFault {
+    fn rule(self) -> Rule
+        ensures { result ≡ rule_of self }
+    {
+        match self {
+            PlaceFault::OutsideSegment => Rule::RebaseOutsideSegment,
+            PlaceFault::NotWritable => Rule::RebaseNotWritable,
+            PlaceFault::OutsideSection => Rule::RebaseOutsideSection,
+            PlaceFault::Misaligned => Rule::RebaseMisaligned,
+            PlaceFault::CrossesPage => Rule::RebaseCrossesPage,
+            PlaceFault::TooMany => Rule::RebaseTooMany,
+        }
+    }
+}
+
+// So many records, each a step behind the one before it. It ends at the first one that is refused,
+// so that what it takes is bounded by the records that are accepted, whatever the count.
+fn record(
+    image: &Image<'_>,
+    cursor: Cursor,
+    count: u64,
+    step: u64,
+    at: usize,
+    out: &mut Vec<Location>,
+) -> Result<Cursor, Fault>
+    ensures moved { IfOk result (λ c. c ≡ record { segment = cursor.segment; offset = wrap (cursor.offset + count * step) }) }
+    ensures added { OnOk result (out.new.items ≡ out.old.items ++ map (location image.now cursor.segment) (progression cursor.offset step count)) }
+    ensures cause { Refuses (option_map (site_of at) (first_fault image.now cursor.segment (length out.old.items) (progression cursor.offset step count))) result }
+{
+    let mut offset = cursor.offset;
+    for _ in 0..count {
+        match locate(image, cursor.segment, offset, out.len()) {
+            Ok(location) => out.push(location)?,
+            Err(fault) => {
+                return Err(Fault::Broken(Site {
+                    rule: fault.rule(),
+                    at: at as u64,
+                }));
+            }
+        }
+        offset = offset.wrapping_add(step);
+    }
+    Ok(Cursor {
+        segment: cursor.segment,
+        offset,
+    })
+}
+
+/// Appends what the opcode at a place records, and gives where the next one begins.
+pub(crate) fn apply(
+    image: &Image<'_>,
+    cursor: Cursor,
+    opcode: Opcode,
+    at: usize,
+    out: &mut Vec<Location>,
+) -> Result<Cursor, Fault>
+    ensures moved { IfOk result (λ c. c ≡ moved cursor opcode) }
+    ensures added { OnOk result (out.new.items ≡ out.old.items ++ map (location image.now cursor.segment) (recorded cursor opcode)) }
+    ensures cause { Refuses (option_map (site_of at) (first_fault image.now cursor.segment (length out.old.items) (recorded cursor opcode))) result }
+{
+    match opcode {
+        Opcode::Done | Opcode::SetPointerType => Ok(cursor),
+        Opcode::SetPlace { segment, offset } => Ok(Cursor {
+            segment: Some(segment),
+            offset,
+        }),
+        Opcode::Advance { distance } => Ok(Cursor {
+            segment: cursor.segment,
+            offset: cursor.offset.wrapping_add(distance),
+        }),
+        Opcode::Record { count, step } => {
+            let next = record(image, cursor, count, step, at, out)?;
+            Ok(next)
+        }
+    }
+}

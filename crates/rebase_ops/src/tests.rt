@@ -1,0 +1,258 @@
+// Streams of one dylib and of two that differ in their data: the locations of those that keep the rules, and for
+// each of rules 21 to 30 streams that break it.
+use crate::read_rebases;
+use dsc_base::{Fault, put_u32};
+use macho_image::{Form, Location, read_image};
+use std::alloc::Global;
+use std::process::Abort;
+use std::test::Fail;
+
+// The numbers of four bytes in a dylib of 0x2040 bytes, each with its place; all others are 0. It has a
+// text and a data segment of one section each, an install name, dyld info and split information.
+const DYLIB: [(usize, u32); 70] = [
+    (0x0, 0xfeedfacf),
+    (0x4, 0x1000007),
+    (0x8, 0x3),
+    (0xc, 0x6),
+    (0x10, 0x6),
+    (0x14, 0x1e0),
+    (0x18, 0x80),
+    (0x20, 0x19),
+    (0x24, 0x98),
+    (0x28, 0x45545f5f),
+    (0x2c, 0x5458),
+    (0x40, 0x1000),
+    (0x50, 0x1000),
+    (0x58, 0x5),
+    (0x5c, 0x5),
+    (0x60, 0x1),
+    (0x68, 0x65745f5f),
+    (0x6c, 0x7478),
+    (0x78, 0x45545f5f),
+    (0x7c, 0x5458),
+    (0x88, 0x400),
+    (0x90, 0x800),
+    (0x98, 0x400),
+    (0xb8, 0x19),
+    (0xbc, 0x98),
+    (0xc0, 0x41445f5f),
+    (0xc4, 0x4154),
+    (0xd0, 0x1000),
+    (0xd8, 0x1000),
+    (0xe0, 0x1000),
+    (0xe8, 0x1000),
+    (0xf0, 0x3),
+    (0xf4, 0x3),
+    (0xf8, 0x1),
+    (0x100, 0x61645f5f),
+    (0x104, 0x6174),
+    (0x110, 0x41445f5f),
+    (0x114, 0x4154),
+    (0x120, 0x1000),
+    (0x128, 0x1000),
+    (0x130, 0x1000),
+    (0x150, 0x19),
+    (0x154, 0x48),
+    (0x158, 0x494c5f5f),
+    (0x15c, 0x44454b4e),
+    (0x160, 0x5449),
+    (0x168, 0x2000),
+    (0x170, 0x1000),
+    (0x178, 0x2000),
+    (0x180, 0x40),
+    (0x188, 0x1),
+    (0x18c, 0x1),
+    (0x198, 0xd),
+    (0x19c, 0x28),
+    (0x1a0, 0x18),
+    (0x1a8, 0x10000),
+    (0x1ac, 0x10000),
+    (0x1b0, 0x642e612f),
+    (0x1b4, 0x62696c79),
+    (0x1c0, 0x80000022),
+    (0x1c4, 0x30),
+    (0x1c8, 0x2000),
+    (0x1cc, 0x5),
+    (0x1f0, 0x1e),
+    (0x1f4, 0x10),
+    (0x1f8, 0x2008),
+    (0x1fc, 0x2),
+    (0x1010, 0x1020),
+    (0x2000, 0x51102111),
+    (0x2008, 0x7f),
+];
+
+// The same with a data segment of two pages, and with a data section of half a page.
+const WIDE: [(usize, u32); 6] = [
+    (0xd8, 0x2000),
+    (0xe8, 0x2000),
+    (0x128, 0x2000),
+    (0x168, 0x3000),
+    (0x178, 0x3000),
+    (0x1f8, 0x3008),
+];
+
+const SHORT: [(usize, u32); 1] = [(0x128, 0x800)];
+
+// What is wanted of a stream: the addresses of its locations, or the rule that it breaks and where.
+type Wanted = Result<&'static [u64], (u16, u64)>;
+
+// Edits of the dylib, the place of its rebase stream, the stream, and what is wanted of it.
+const CASES: [(&[(usize, u32)], u32, &[u8], Wanted); 26] = [
+    // one pointer
+    (&[], 0x2010, b"\x11\x21\x10\x51\x00", Ok(&[0x1010])),
+    // two pointers, with a gap between them
+    (
+        &[],
+        0x2010,
+        b"\x11\x21\x10\x70\x10\x51\x00",
+        Ok(&[0x1010, 0x1028]),
+    ),
+    // a pointer over the edge of a page
+    (&WIDE, 0x3010, b"\x11\x21\xfc\x1f\x51\x00", Err((28, 0x4))),
+    // one that ends at the edge
+    (&WIDE, 0x3010, b"\x11\x21\xf8\x1f\x51\x00", Ok(&[0x1ff8])),
+    // records that run off the end of the segment, after 512 of them
+    (
+        &[],
+        0x2010,
+        b"\x11\x21\x00\x60\x80\x80\x80\x80\x80\x20",
+        Err((24, 0x3)),
+    ),
+    // nothing
+    (&[], 0x2010, b"", Ok(&[])),
+    // bytes behind the end
+    (&[], 0x2010, b"\x00\x90", Ok(&[])),
+    // each of the opcodes that move and record
+    (
+        &[],
+        0x2010,
+        b"\x11\x21\x00\x42\x51\x30\x08\x80\x02\x08\x60\x01",
+        Ok(&[0x1010, 0x1020, 0x1030, 0x1040]),
+    ),
+    // a move by less than nothing
+    (
+        &[],
+        0x2010,
+        b"\x11\x21\x18\x30\xf8\xff\xff\xff\xff\xff\xff\xff\xff\x01\x51",
+        Ok(&[0x1010]),
+    ),
+    // the second location below the first
+    (
+        &[],
+        0x2010,
+        b"\x11\x21\x18\x51\x21\x10\x51\x00",
+        Ok(&[0x1010, 0x1018]),
+    ),
+    // a segment that isn't there, without a record
+    (&[], 0x2010, b"\x11\x2f\x00\x00", Ok(&[])),
+    // an operand that ends early, which is tried before the place
+    (&[], 0x2010, b"\x11\x60\x80", Err((21, 0x1))),
+    // an operand of more than 64 bits
+    (
+        &[],
+        0x2010,
+        b"\x11\x30\x80\x80\x80\x80\x80\x80\x80\x80\x80\x02",
+        Err((21, 0x1)),
+    ),
+    // no such opcode
+    (&[], 0x2010, b"\x11\x90", Err((22, 0x1))),
+    // an absolute 32-bit address
+    (&[], 0x2010, b"\x12\x51", Err((23, 0x0))),
+    // no segment is set
+    (&[], 0x2010, b"\x11\x51", Err((24, 0x1))),
+    // the segment isn't there
+    (&[], 0x2010, b"\x11\x2f\x00\x51", Err((24, 0x3))),
+    // the second word ends behind the segment
+    (&[], 0x2010, b"\x11\x21\xf4\x1f\x52", Err((24, 0x4))),
+    // a word of the text
+    (&[], 0x2010, b"\x11\x20\x80\x08\x51", Err((25, 0x4))),
+    // a word that ends behind the section
+    (&SHORT, 0x2010, b"\x11\x21\xfc\x0f\x51", Err((26, 0x4))),
+    // and one that ends with it
+    (&SHORT, 0x2010, b"\x11\x21\xf8\x0f\x51", Ok(&[0x17f8])),
+    // an odd multiple of two
+    (&[], 0x2010, b"\x11\x21\x02\x51", Err((27, 0x3))),
+    // an odd multiple of two over a page's edge
+    (&WIDE, 0x3010, b"\x11\x21\xfe\x1f\x51", Err((27, 0x4))),
+    // a record too many, at one place
+    (
+        &[],
+        0x2010,
+        b"\x11\x21\x00\x80\x81\x80\x40\xf8\xff\xff\xff\xff\xff\xff\xff\xff\x01",
+        Err((29, 0x3)),
+    ),
+    // as many as there may be, at one place
+    (
+        &[],
+        0x2010,
+        b"\x11\x21\x00\x80\x80\x80\x40\xf8\xff\xff\xff\xff\xff\xff\xff\xff\x01",
+        Err((30, 0x1000)),
+    ),
+    // four bytes apart
+    (
+        &[],
+        0x2010,
+        b"\x11\x21\x20\x51\x21\x10\x51\x21\x0c\x51",
+        Err((30, 0x100c)),
+    ),
+];
+
+fn put_all(file: &mut [u8], numbers: &[(usize, u32)]) {
+    for (place, value) in numbers {
+        if *place < file.len() && file.len() - *place >= 4 {
+            put_u32(file, *place, *value);
+        }
+    }
+}
+
+// The dylib with these edits and with this rebase stream at a place.
+fn file_with(
+    alloc: Global,
+    edits: &[(usize, u32)],
+    stream_at: u32,
+    stream: &[u8],
+) -> Result<Vec<u8>, Fail> {
+    let mut file = vec![in alloc; 0u8; 0x3040]?;
+    let size = u32::try_from(stream.len()).ok().ok_or("a short stream")?;
+    put_all(&mut file, &DYLIB);
+    put_all(&mut file, edits);
+    put_all(&mut file, &[(0x1c8, stream_at), (0x1cc, size)]);
+    let at = stream_at as usize;
+    if at <= file.len() && stream.len() <= file.len() - at {
+        file[at..at + stream.len()].copy_from_slice(stream);
+    }
+    Ok(file)
+}
+
+// The locations have these addresses, in the second segment and its section, the second of all.
+fn are_found(rt: &impl Abort, found: &[Location], addresses: &[u64]) {
+    assert_eq!(rt; found.len(), addresses.len());
+    for (location, address) in found.iter().zip(addresses) {
+        let wanted = Location {
+            segment: 1,
+            section: 2,
+            address: *address,
+        };
+        assert_eq!(rt; *location, wanted);
+    }
+}
+
+#[test]
+fn streams(rt: HostRuntime) -> Result<(), Fail> {
+    let alloc = rt.alloc();
+    for (edits, stream_at, stream, wanted) in CASES {
+        let file = file_with(alloc, edits, stream_at, stream)?;
+        let image = read_image(alloc, &file, 0, Form::Standalone)
+            .ok()
+            .ok_or("the dylib is read")?;
+        match (read_rebases(alloc, image.streams.rebase, &image), wanted) {
+            (Ok(found), Ok(addresses)) => are_found(&rt, &found, addresses),
+            (Err(Fault::Broken(site)), Err(broken)) => {
+                assert_eq!(rt; (site.rule.number(), site.at), broken, "{stream:?}");
+            }
+            _ => assert!(rt; false, "{stream:?}"),
+        }
+    }
+    Ok(())
+}
