@@ -1,7 +1,7 @@
 -- Lists that are made of the items of another one with their numbers, and sums over its items, one item further on.
-use Rattle.std.proofs.Common.{◌≡◌, ◌≤◌, ◌<◌, ◌%◌, ℕ, ◌+◌, List, [], ◌∷◌, ◌++◌, length, map, take, get_or, refl, sym, ap, ap₂, ◌∙◌, arith}
-use Rattle.std.specs.List.{sum_by, enumerate_from}
-use Rattle.std.proofs.lemmas.List.{take_more, take-take, length-take-le, length-map, get_or-map}
+use Rattle.std.proofs.Common.{◌≡◌, ◌≤◌, ◌<◌, ◌%◌, ℕ, ◌+◌, List, [], ◌∷◌, ◌++◌, length, map, take, get_or, refl, sym, ap, ap₂, ◌∙◌, arith, append_assoc}
+use Rattle.std.specs.List.{sum_by, flat_map, enumerate_from}
+use Rattle.std.proofs.lemmas.List.{append-nil, take_more, take-take, length-take-le, length-map, get_or-map}
 use Rattle.std.proofs.lemmas.List.Sums.{sum_by_push, sum_by-cons, sum_by-take-le}
 use Rattle.std.proofs.lemmas.List.FromFn.{length-enumerate_from, get_or-enumerate_from}
 use Rattle.cache_layout.specs.Places.{numbered}
@@ -58,3 +58,16 @@ sum-before {X} f xs a b x before within is =
 pub sum-pages : {X : Type 0} (f : X → ℕ) (xs : List X) → ((x : X) → f x % 4096 ≡ 0) → sum_by f xs % 4096 ≡ 0
 sum-pages f [] whole = refl
 sum-pages f (x ∷ xs) whole = omega (arith, sum_by-cons f x xs, whole x, sum-pages f xs whole)
+
+-- lists joined of what each item and its number give
+flat-push : {X : Type 0} (f : X → List ℕ) (xs : List X) (x : X) → flat_map f (xs ++ x ∷ []) ≡ flat_map f xs ++ f x
+flat-push f [] x = append-nil (f x)
+flat-push {X} f (y ∷ ys) x = ap (λ (l : List ℕ). f y ++ l) (flat-push f ys x) ∙ sym (append_assoc (f y) (flat_map f ys) (f x))
+
+pub joined-step : {X : Type 0} (h : ℕ → X → List ℕ) (xs : List X) (n : ℕ) (x : X) → n < length xs → x ≡ get_or xs n x
+    → flat_map (λ p. h p.0 p.1) (enumerate_from 0 (take (n + 1) xs)) ≡ flat_map (λ p. h p.0 p.1) (enumerate_from 0 (take n xs)) ++ h n x
+joined-step {X} h xs n x lt is =
+    let long : 0 + length (take n xs) ≡ n = omega (arith, length-take-le n xs (omega arith)) in
+    ap (λ (l : List X). flat_map (λ p. h p.0 p.1) (enumerate_from 0 l)) (take-step xs n x lt is)
+    ∙ (ap (λ (l : List (ℕ × X)). flat_map (λ p. h p.0 p.1) l) (enumerate_from-push 0 (take n xs) x ∙ ap (λ (k : ℕ). enumerate_from 0 (take n xs) ++ (k, x) ∷ []) long)
+    ∙ flat-push (λ (p : ℕ × X). h p.0 p.1) (enumerate_from 0 (take n xs)) (n, x))

@@ -20,6 +20,10 @@ is_same Writable Writable = true
 is_same Fixed Fixed = true
 is_same m n = false
 
+abbrev pub is_in : Mapping → Option Mapping → Bool
+is_in m None = false
+is_in m (Some n) = is_same m n
+
 -- so many bytes, where they belong to the mapping, and 0 where they belong to another one or to none
 abbrev pub share : Mapping → Option Mapping → ℕ → ℕ
 share m None size = 0

@@ -8,6 +8,7 @@ mod moving;
 mod room;
 
 pub use layout::{Layout, lay_out};
+pub use mapping::Mapping;
 
 #[cfg(test)]
 mod tests;

@@ -1,6 +1,6 @@
 // The mappings of a cache that take segments.
 ghost use Rattle.std.specs.Prelude.{◌≡◌};
-ghost use Rattle.cache_layout.specs.Places.{mapping_of};
+ghost use Rattle.cache_layout.specs.Places.{is_in, mapping_of};
 
 use macho_image::Segment;
 
@@ -10,6 +10,20 @@ pub enum Mapping {
     Text,
     Writable,
     Fixed,
+}
+
+impl Mapping {
+    /// Whether a segment belongs to this mapping.
+    pub fn has(self, segment: &Segment<'_>) -> bool
+        ensures { result ≡ is_in self (mapping_of segment.now) }
+    {
+        match (self, mapping_of(segment)) {
+            (Mapping::Text, Some(Mapping::Text)) => true,
+            (Mapping::Writable, Some(Mapping::Writable)) => true,
+            (Mapping::Fixed, Some(Mapping::Fixed)) => true,
+            _ => false,
+        }
+    }
 }
 
 /// The mapping of a segment. `__LINKEDIT` has none, since the images of a cache share one.
