@@ -8,7 +8,7 @@ use Rattle.macho_image.specs.declared.section.Section.{Section}
 use Rattle.load_model.specs.Memory.{Cells, wrap, above, HasNumber}
 use Rattle.load_model.specs.Words.{Word, Starts, LeadsTo, width_of, Exported, ExportTarget, Offset, Absolute, Reexport}
 use Rattle.load_model.specs.Loading.{Linked, linked, loaded, loaded_starts}
-use Rattle.load_model.specs.Head.{image_count, image_path}
+use Rattle.cache_header.specs.Reading.{image_count, image_path}
 use Rattle.load_model.specs.Mapped.{mapped, cached_image}
 
 -- The shape of an image, as a list of numbers: how many segments it has besides __LINKEDIT; for each of

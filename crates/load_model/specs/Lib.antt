@@ -1,5 +1,4 @@
 pub mod Corresponds
-pub mod Head
 pub mod Loading
 pub mod Mapped
 pub mod Memory

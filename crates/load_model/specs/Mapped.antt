@@ -8,7 +8,15 @@ use Rattle.macho_image.specs.declared.form.Form.TheVariants.{Cached}
 use Rattle.slide_chain.specs.Chains.{Slide, slid_area}
 use Rattle.slide_chain.specs.Info.{info_read}
 use Rattle.load_model.specs.Memory.{Cells, nowhere, wrap, above, with_bytes}
-use Rattle.load_model.specs.Head.{Mapping, mappings_of, image_address, slide_info_bytes}
+use Rattle.cache_header.specs.declared.head.Mapping.{Mapping}
+use Rattle.cache_header.specs.Reading.{mappings_of, image_address, slide_info_bytes}
+
+-- the mappings of a cache by their sizes, one behind the other: text, data and linkedit
+abbrev pub three_mappings : ℕ → ℕ → ℕ → List Mapping
+three_mappings a b c =
+    record { address = region_start; size = a; file = 0; max_prot = 5; init_prot = 5 }
+    ∷ record { address = region_start + a; size = b; file = a; max_prot = 3; init_prot = 3 }
+    ∷ record { address = region_start + (a + b); size = c; file = a + b; max_prot = 1; init_prot = 1 } ∷ []
 
 -- a range of memory with its bytes
 pub record Piece : Type 0 where

@@ -1,0 +1,4 @@
+pub mod CellLaws
+pub mod LoadingLaws
+pub mod MappedLaws
+pub mod ShapeLaws
