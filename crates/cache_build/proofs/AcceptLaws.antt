@@ -1,6 +1,7 @@
 -- What the tests of one file amount to.
 use Rattle.std.proofs.Common.{◌≡◌, ◌≤◌, ℕ, true, false, not, ◌||◌, if◌then◌else◌, nat_eq, nat_lt, Option, Some, None, List, [], ◌∷◌, length, refl, sym, ap, ◌∙◌, subst, arith}
 use Rattle.std.specs.Prelude.{Result, Ok, Err, IsErrAnd, IfErr}
+use Rattle.std.specs.Prelude.{unwrap_or}
 use Rattle.std.specs.Option.{option_or, option_map, is_none}
 use Rattle.std.proofs.lemmas.Bool.{cond-true, cond-false}
 use Rattle.std.proofs.lemmas.Bool.Decides.{nat_tests}
@@ -28,29 +29,33 @@ image_found form b h i found =
       | Some s ↦ λ is. absurd (cc)
     ] found
 
+-- what a file has that can't be built yet
+abbrev pub not_yet_of : List ℕ → Option ℕ
+not_yet_of file = breaks_not_yet (header_in file 0) (unwrap_or (image_of file 0).streams.split [])
+
 pub shape_universal : (file : List ℕ) → is_universal file ≡ true → shape_break file ≡ Some (record { rule = NotYet; at = 0 })
 unfolding shape_break
 shape_universal file is = cond-true (is_universal file) _ _ is
 
-shape_plain : (file : List ℕ) → is_universal file ≡ false → shape_break file ≡ first_break (image_break Standalone file 0 ∷ broken NotYet (breaks_not_yet (header_in file 0)) ∷ [])
+shape_plain : (file : List ℕ) → is_universal file ≡ false → shape_break file ≡ first_break (image_break Standalone file 0 ∷ broken NotYet (not_yet_of file) ∷ [])
 unfolding shape_break
 shape_plain file is = cond-false (is_universal file) _ _ is
 
 pub shape_image : (file : List ℕ) (fault : Fault) → is_universal file ≡ false → IsRefusal (image_break Standalone file 0) fault → IsRefusal (shape_break file) fault
 shape_image file (Broken site) is broken_image =
-    shape_plain file is ∙ ap (λ (o : Option Site). option_or o (option_or (broken NotYet (breaks_not_yet (header_in file 0))) None)) broken_image
+    shape_plain file is ∙ ap (λ (o : Option Site). option_or o (option_or (broken NotYet (not_yet_of file)) None)) broken_image
 shape_image file Memory is broken_image = tt
 
-pub shape_not_yet : (file : List ℕ) (at : ℕ) → is_universal file ≡ false → image_break Standalone file 0 ≡ None → breaks_not_yet (header_in file 0) ≡ Some at → shape_break file ≡ Some (record { rule = NotYet; at = at })
+pub shape_not_yet : (file : List ℕ) (at : ℕ) → is_universal file ≡ false → image_break Standalone file 0 ≡ None → not_yet_of file ≡ Some at → shape_break file ≡ Some (record { rule = NotYet; at = at })
 shape_not_yet file at is unbroken not_yet =
     shape_plain file is
-    ∙ (ap (λ (o : Option Site). option_or o (option_or (broken NotYet (breaks_not_yet (header_in file 0))) None)) unbroken
+    ∙ (ap (λ (o : Option Site). option_or o (option_or (broken NotYet (not_yet_of file)) None)) unbroken
     ∙ ap (λ (o : Option ℕ). option_or (broken NotYet o) None) not_yet)
 
-pub shape_none : (file : List ℕ) → is_universal file ≡ false → image_break Standalone file 0 ≡ None → breaks_not_yet (header_in file 0) ≡ None → shape_break file ≡ None
+pub shape_none : (file : List ℕ) → is_universal file ≡ false → image_break Standalone file 0 ≡ None → not_yet_of file ≡ None → shape_break file ≡ None
 shape_none file is unbroken not_yet =
     shape_plain file is
-    ∙ (ap (λ (o : Option Site). option_or o (option_or (broken NotYet (breaks_not_yet (header_in file 0))) None)) unbroken
+    ∙ (ap (λ (o : Option Site). option_or o (option_or (broken NotYet (not_yet_of file)) None)) unbroken
     ∙ ap (λ (o : Option ℕ). option_or (broken NotYet o) None) not_yet)
 
 -- a header that breaks no rule has its 32 bytes
@@ -94,6 +99,6 @@ pub handed_on : {X : Type 0} (found : Option Site) (r : Result X Fault) (fault :
 handed_on found (Ok x) fault is refused = tt
 handed_on found (Err g) fault is refused = subst (λ (f : Fault). IsRefusal found f) (sym is) refused
 
-pub header_found : (file : List ℕ) (i : Img) → image_at Standalone file 0 ≡ Some i → i.header ≡ header_in file 0
+pub not_yet_is : (file : List ℕ) (i : Img) → image_at Standalone file 0 ≡ Some i → breaks_not_yet i.header (unwrap_or i.streams.split []) ≡ not_yet_of file
 unfolding image_from
-header_found file i found = ap (λ (j : Img). j.header) (image_found Standalone file 0 i found).1
+not_yet_is file i found = ap (λ (j : Img). breaks_not_yet j.header (unwrap_or j.streams.split [])) (image_found Standalone file 0 i found).1

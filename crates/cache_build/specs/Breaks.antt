@@ -1,53 +1,63 @@
 -- The first rule that a set of files breaks: by phase, then by image, then by the groups of a phase.
-use Rattle.std.specs.Prelude.{ℕ, ◌+◌, Bool, not, ◌&&◌, ◌||◌, nat_eq, nat_lt, nat_le, if◌then◌else◌, Option, Some, None, is_none, option_map, List, [], ◌∷◌, length}
+use Rattle.std.specs.Prelude.{ℕ, ◌+◌, Bool, true, false, not, ◌&&◌, ◌||◌, nat_eq, nat_lt, nat_le, if◌then◌else◌, Option, Some, None, is_some, is_none, unwrap_or, option_map, List, [], ◌∷◌, ◌++◌, length, map, position}
 use Rattle.std.specs.Option.{option_or}
 use Rattle.dsc_base.specs.Numbers.{number_at}
 use Rattle.dsc_base.specs.declared.fault.Site.{Site}
 use Rattle.dsc_base.specs.declared.fault.Break.{Break}
-use Rattle.dsc_base.specs.declared.rule.Rule.TheVariants.{NotYet}
+use Rattle.dsc_base.specs.declared.rule.Rule.TheVariants.{NotYet, DuplicateName, LinkeditTooLarge}
 use Rattle.macho_image.specs.declared.form.Form.TheVariants.{Standalone}
-use Rattle.macho_image.specs.Records.{Load}
-use Rattle.macho_image.specs.Macho.{number_of, is_segment, is_install_name, is_split_info, header_in, loads_of, segment_loads, command_where, commands_of}
+use Rattle.macho_image.specs.Records.{Img}
+use Rattle.macho_image.specs.Macho.{number_of, is_dyld_info, link_kind, is_split_info, is_symtab, is_dysymtab, is_function_starts, is_data_in_code, header_in, loads_of, segment_loads, command_where, commands_of, image_of}
+use Rattle.macho_image.specs.Rules.{first_load, same_bytes}
 use Rattle.macho_image.specs.Breaks.{image_break, broken, first_break}
+use Rattle.cache_layout.specs.Layouts.{layout_of, layout_break}
+use Rattle.cache_build.specs.Places.{span_of}
 
--- Rule 190: what no stage of the builder takes yet.
+-- ---- Rule 190: what the builder doesn't take yet
 
--- a command that can't be built yet, where so many segment commands of so many stand before it: another
--- command than a segment or the install name, a segment that is neither the first nor the last one, or a
--- first one whose size in memory isn't its size in the file
-abbrev pub is_unbuilt : ℕ → ℕ → List ℕ → Bool
-is_unbuilt total before c =
-    if is_segment (number_of c)
-    then (nat_lt 0 before && nat_lt (before + 1) total) || (nat_eq before 0 && not (nat_eq (number_at 8 c 32) (number_at 8 c 48)))
-    else not (is_install_name (number_of c))
+-- the number of four bytes at a place of a command isn't 0
+abbrev pub is_set : List ℕ → ℕ → Bool
+is_set c at = not (nat_eq (number_at 4 c at) 0)
 
--- how many segment commands a command is
-abbrev pub segments_in : List ℕ → ℕ
-segments_in c = if is_segment (number_of c) then 1 else 0
+-- dyld_info_command: one of its five streams has bytes
+abbrev pub names_streams : List ℕ → Bool
+names_streams c = is_set c 12 || (is_set c 20 || (is_set c 28 || (is_set c 36 || is_set c 44)))
 
-unfoldable pub first_unbuilt : ℕ → ℕ → List Load → Option ℕ
-first_unbuilt total before [] = None
-first_unbuilt total before (l ∷ ls) =
-    if is_unbuilt total before l.bytes then Some l.at else first_unbuilt total (before + segments_in l.bytes) ls
+-- dysymtab_command: a group or the indirect table has entries, or a group begins behind the first symbol
+abbrev pub names_symbols : List ℕ → Bool
+names_symbols c = is_set c 8 || (is_set c 12 || (is_set c 16 || (is_set c 20 || (is_set c 24 || (is_set c 28 || is_set c 60)))))
+
+-- A command that can't be built yet: one that names a dependency, a stream or a table that isn't empty, or
+-- split-segment information with references
+unfoldable pub is_unbuilt : List ℕ → List ℕ → Bool
+is_unbuilt split c =
+    if is_dyld_info (number_of c) then names_streams c else
+    (if is_some (link_kind (number_of c)) then true else
+    (if is_split_info (number_of c) then not (same_bytes split (0x7F ∷ 0 ∷ [])) else
+    (if is_symtab (number_of c) then is_set c 12 || is_set c 20 else
+    (if is_dysymtab (number_of c) then names_symbols c else
+    (if is_function_starts (number_of c) || is_data_in_code (number_of c) then is_set c 12 else false)))))
 
 -- more than one segment besides `__LINKEDIT`, and no split-segment information
 abbrev pub is_unsplit : List ℕ → Bool
 is_unsplit header =
     nat_lt 2 (length (segment_loads (loads_of header))) && is_none (command_where is_split_info (commands_of header))
 
-unfoldable pub breaks_not_yet : List ℕ → Option ℕ
-breaks_not_yet header =
-    if is_unsplit header then Some 0 else first_unbuilt (length (segment_loads (loads_of header))) 0 (loads_of header)
+unfoldable pub breaks_not_yet : List ℕ → List ℕ → Option ℕ
+breaks_not_yet header split =
+    if is_unsplit header then Some 0 else first_load (λ l. is_unbuilt split l.bytes) (loads_of header)
 
 -- FAT_MAGIC, which has its high byte first, before as many bytes as a header has
 unfoldable pub is_universal : List ℕ → Bool
 is_universal file = nat_le 32 (length file) && nat_eq (number_at 4 file 0) 0xBEBAFECA
 
--- phase 1, of one file
+-- ---- The phases
+
+-- the first phase, of one file: its shape
 unfoldable pub shape_break : List ℕ → Option Site
 shape_break file =
     if is_universal file then Some record { rule = NotYet; at = 0 }
-    else first_break (image_break Standalone file 0 ∷ broken NotYet (breaks_not_yet (header_in file 0)) ∷ [])
+    else first_break (image_break Standalone file 0 ∷ broken NotYet (breaks_not_yet (header_in file 0) (unwrap_or (image_of file 0).streams.split [])) ∷ [])
 
 -- the first break of a phase whose rules speak of one file at a time, with the number of the image
 unfoldable pub each_file : (List ℕ → Option Site) → ℕ → List (List ℕ) → Option Break
@@ -55,6 +65,31 @@ each_file breaks k [] = None
 each_file breaks k (f ∷ fs) =
     option_or (option_map (λ (s : Site). record { rule = s.rule; image = k; at = s.at }) (breaks f)) (each_file breaks (k + 1) fs)
 
+-- the set: the first image that has the install name of an earlier one, and the number of that one
+abbrev pub first_duplicate : List (List ℕ) → List (List ℕ) → Option Break
+first_duplicate earlier [] = None
+first_duplicate earlier (name ∷ names) =
+    option_or (option_map (λ (j : ℕ). record { rule = DuplicateName; image = length earlier; at = j }) (position (same_bytes name) earlier))
+    (first_duplicate (earlier ++ name ∷ []) names)
+
+unfoldable pub duplicate_break : List Img → Option Break
+duplicate_break images = first_duplicate [] (map (λ (i : Img). i.install_name) images)
+
+-- the linkedit: the whole cache has at most 512 MiB
+abbrev pub too_large_at : ℕ → Option Break
+too_large_at span = if nat_lt 0x20000000 span then Some record { rule = LinkeditTooLarge; image = 0; at = 0x20000000 } else None
+
+unfoldable pub linkedit_break : List Img → Option Break
+linkedit_break images = too_large_at (span_of (layout_of images))
+
+-- the images that files spell
+abbrev pub images_of : List (List ℕ) → List Img
+images_of files = map (λ (file : List ℕ). image_of file 0) files
+
+-- the phases behind the first one: set, layout and linkedit
+unfoldable pub images_break : List Img → Option Break
+images_break images = option_or (duplicate_break images) (option_or (layout_break images) (linkedit_break images))
+
 -- the first break of the files, by phase
 unfoldable pub set_break : List (List ℕ) → Option Break
-set_break files = each_file shape_break 0 files
+set_break files = option_or (each_file shape_break 0 files) (images_break (images_of files))

@@ -1,22 +1,21 @@
 -- What a build gives: the cache of the files, or the first rule that they break.
-use Rattle.std.specs.Prelude.{◌≡◌, ℕ, List, [], ◌∷◌, map, Option, Some, Vec}
+use Rattle.std.specs.Prelude.{◌≡◌, ℕ, List, map, Option, Some, Vec}
 use Rattle.std.specs.declared.alloc.Global.{Global}
 use Rattle.dsc_base.specs.declared.fault.Break.{Break}
 use Rattle.dsc_base.specs.declared.fault.SetFault.{SetFault}
 use Rattle.dsc_base.specs.declared.fault.SetFault.TheVariants.{Broken, Memory}
 use Rattle.dsc_base.specs.declared.fault.Fault.{Fault}
 use Rattle.dsc_base.specs.declared.fault.Fault.TheVariants.{Broken as BrokenSite, Memory as FaultMemory}
-use Rattle.macho_image.specs.Macho.{image_of}
+use Rattle.cache_build.specs.Breaks.{images_of}
 use Rattle.cache_build.specs.Cache.{cache_of}
 
 -- the bytes of files
 abbrev pub contents : List (Vec ℕ Global) → List (List ℕ)
 contents files = map (λ (f : Vec ℕ Global). f.items) files
 
--- the cache of accepted files: of one plain file, as long as no more are taken
-unfoldable pub built : List (List ℕ) → List ℕ
-built [] = []
-built (file ∷ files) = cache_of (image_of file 0)
+-- the cache of accepted files
+abbrev pub built : List (List ℕ) → List ℕ
+built files = cache_of (images_of files)
 
 -- a broken rule is the first one of the set; memory may be wanting at any time
 abbrev pub IsSetRefusal : Option Break → SetFault → Type 0

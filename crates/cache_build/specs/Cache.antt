@@ -1,45 +1,81 @@
--- The cache of one plain image: the bytes of its parts, joined.
-use Rattle.std.specs.Prelude.{ℕ, ◌+◌, List, [], ◌∷◌, ◌++◌, drop, length}
-use Rattle.dsc_base.specs.Fields.{spelled}
-use Rattle.dsc_base.specs.declared.fields.Field.{Field}
-use Rattle.dsc_base.specs.declared.fields.Field.TheVariants.{U32, U64}
+-- The cache of a set of images: the bytes of its parts, joined.
+use Rattle.std.specs.Prelude.{ℕ, zero, suc, List, [], ◌∷◌, ◌++◌, drop, length, Option, Some, None, slice_get, slice_index_or}
+use Rattle.dsc_base.specs.Region.{paged, padded}
+use Rattle.dsc_base.specs.declared.fault.Span.{Span}
 use Rattle.macho_image.specs.Records.{Seg, Img}
-use Rattle.cache_build.specs.declared.header.SegmentMove.{SegmentMove}
-use Rattle.dsc_base.specs.Region.{region_start, paged, padded}
-use Rattle.cache_build.specs.Header.{cached_header}
+use Rattle.macho_edit.specs.declared.spots.LinkSpots.{LinkSpots}
+use Rattle.macho_edit.specs.Cached.{cached_bytes}
+use Rattle.cache_header.specs.Spelling.{head_bytes}
+use Rattle.cache_layout.specs.Places.{moved_to, numbered}
+use Rattle.cache_layout.specs.Layouts.{Laid, layout_of}
+use Rattle.cache_layout.specs.Parts.{joined}
+use Rattle.slide_chain.specs.Info.{info_bytes}
+use Rattle.slide_chain.specs.Making.{info_of}
+use Rattle.cache_build.specs.Places.{slide_size, linkedit_place, linkedit_size}
 use Rattle.cache_build.specs.Head.{head_of}
-use Rattle.cache_build.specs.Identifier.{identifier_of}
 
--- the text segment follows the head's page, and its file size becomes its size in memory
-abbrev pub text_place : ℕ → SegmentMove
-text_place size = record { address = region_start + 0x1000; file = 0x1000; vmsize = size; filesize = size }
+-- a stream or table that an image doesn't have
+abbrev pub no_spot : Span
+no_spot = record { at = 0; len = 0 }
 
--- the merged linkedit follows slide information's page; it is the string pool with nothing but the empty name
-abbrev pub linkedit_place : ℕ → SegmentMove
-linkedit_place room = record { address = region_start + (0x2000 + room); file = 0x2000 + room; vmsize = 0x1000; filesize = 1 }
+-- where each image finds its streams and tables, where the linkedit stands at a place: there is nothing but the pool
+unfoldable pub spots_at : ℕ → LinkSpots
+spots_at place = record {
+  linkedit = moved_to place;
+  vmsize = paged linkedit_size;
+  filesize = linkedit_size;
+  rebase = no_spot;
+  bind = no_spot;
+  lazy = no_spot;
+  exports = no_spot;
+  function_starts = no_spot;
+  data_in_code = no_spot;
+  symbols = no_spot;
+  indirect = no_spot;
+  strings = record { at = place; len = linkedit_size };
+  groups = 0 ∷ 0 ∷ 0 ∷ 0 ∷ 0 ∷ 0 ∷ [];
+}
 
-abbrev pub places_of : ℕ → List SegmentMove
-places_of size = text_place size ∷ linkedit_place (paged size) ∷ []
+-- the header of image k in the cache
+abbrev pub header_of : Laid → ℕ → Img → List ℕ
+header_of l k image = cached_bytes image (slice_index_or l.moves k []) (spots_at (linkedit_place l))
 
--- dyld_cache_slide_info2 of no data: version 2, pages of 4096 bytes, no starts, no extras, a mask of 16 bits
-abbrev pub slide_fields : List Field
-slide_fields = U32 2 ∷ U32 4096 ∷ U32 40 ∷ U32 0 ∷ U32 40 ∷ U32 0 ∷ U64 0xFFFF000000000000 ∷ U64 0 ∷ []
+-- the bytes of a segment in whole pages; the first one begins with the header, here the cached one
+unfoldable pub pages_of : List ℕ → ℕ → Seg → List ℕ
+pages_of header zero s = padded (paged s.vmsize) (header ++ drop (length header) s.bytes)
+pages_of header (suc g) s = padded (paged s.vmsize) s.bytes
 
--- the text segment's bytes, with the cached header in place of the file's
-unfoldable pub text_bytes : ℕ → List ℕ → List ℕ → List ℕ
-text_bytes size header text = cached_header (places_of size) header ++ drop (length header) text
+abbrev pub pages_at : List ℕ → ℕ → Option Seg → List ℕ
+pages_at header g None = []
+pages_at header g (Some s) = pages_of header g s
 
--- the parts, by the text segment's size and bytes, the image's identifier, path and header
-unfoldable pub joined : ℕ → List ℕ → List ℕ → List ℕ → List ℕ → List ℕ
-joined size uuid path header text =
-    padded 0x1000 (head_of (paged size) (identifier_of (uuid ∷ [])) uuid size path)
-    ++ (padded (paged size) (text_bytes size header text)
-    ++ (padded 0x1000 (spelled slide_fields) ++ padded 0x1000 (0 ∷ [])))
+-- the bytes of the segments of an image, by number
+abbrev pub segment_pages : List ℕ → List Seg → ℕ → List ℕ
+segment_pages header ss g = pages_at header g (slice_get ss g)
 
--- the first segment, which is the text segment
-abbrev pub text_of : List Seg → Seg
-text_of [] = record { name = []; vmaddr = 0; vmsize = 0; fileoff = 0; filesize = 0; maxprot = 0; initprot = 0; flags = 0; bytes = [] }
-text_of (s ∷ ss) = s
+abbrev pub image_pages : List ℕ → Option Img → ℕ → List ℕ
+image_pages header None g = []
+image_pages header (Some image) g = segment_pages header image.segments g
 
-unfoldable pub cache_of : Img → List ℕ
-cache_of image = joined (text_of image.segments).vmsize image.uuid image.install_name image.header (text_of image.segments).bytes
+-- the bytes of each segment, by image and number, where the images have these headers
+abbrev pub all_pages : List (List ℕ) → List Img → ℕ → ℕ → List ℕ
+all_pages headers images k = image_pages (slice_index_or headers k []) (slice_get images k)
+
+-- the headers of all images in the cache
+abbrev pub headers_of : Laid → List Img → List (List ℕ)
+headers_of l images = numbered (header_of l) images
+
+-- slide information of data without words
+abbrev pub slide_bytes : Laid → List ℕ
+slide_bytes l = info_bytes (info_of 16 l.writable.len [])
+
+-- slide information and the merged linkedit, each in whole pages
+abbrev pub tail_of : Laid → List ℕ
+tail_of l = padded (paged (slide_size l)) (slide_bytes l) ++ padded (paged linkedit_size) (0 ∷ [])
+
+-- the head, the segments by mapping, image and command, and the rest
+unfoldable pub cache_from : Laid → List Img → List ℕ
+cache_from l images = joined (padded l.text.at (head_bytes (head_of l images))) (all_pages (headers_of l images) images) images (tail_of l)
+
+abbrev pub cache_of : List Img → List ℕ
+cache_of images = cache_from (layout_of images) images

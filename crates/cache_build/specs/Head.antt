@@ -1,41 +1,39 @@
--- The head of a cache: the header, the tables and the paths, after <mach-o/dyld_cache_format.h>.
-use Rattle.std.specs.Prelude.{ℕ, ◌+◌, ◌-◌, List, [], ◌∷◌, ◌++◌}
-use Rattle.dsc_base.specs.Fields.{spelled}
-use Rattle.dsc_base.specs.declared.fields.Field.{Field}
-use Rattle.dsc_base.specs.declared.fields.Field.TheVariants.{U32, U64, Identifier, Zeros}
-use Rattle.dsc_base.specs.Region.{region_start, region_size}
+-- What the head of a cache says of a set of images and their layout.
+use Rattle.std.specs.Prelude.{ℕ, ◌+◌, ◌-◌, List, [], ◌∷◌, map, slice_index_or}
+use Rattle.dsc_base.specs.Region.{region_size}
+use Rattle.macho_image.specs.Records.{Seg, Img}
+use Rattle.macho_image.specs.declared.place.Moved.{Moved}
+use Rattle.cache_header.specs.Records.{Entry, Head}
+use Rattle.cache_header.specs.Identifier.{identifier_of}
+use Rattle.cache_layout.specs.Places.{numbered}
+use Rattle.cache_layout.specs.Layouts.{Laid}
+use Rattle.load_model.specs.Mapped.{three_mappings}
+use Rattle.cache_build.specs.Places.{slide_place, slide_size, span_of}
 
--- "dyld_v1  x86_64" and a NUL
-abbrev pub magic : List ℕ
-magic = 100 ∷ 121 ∷ 108 ∷ 100 ∷ 95 ∷ 118 ∷ 49 ∷ 32 ∷ 32 ∷ 120 ∷ 56 ∷ 54 ∷ 95 ∷ 54 ∷ 52 ∷ 0 ∷ []
+-- the size in memory of the first segment, which is the text segment
+abbrev pub text_size : List Seg → ℕ
+text_size [] = 0
+text_size (s ∷ ss) = s.vmsize
 
--- dyld_cache_header, of 0xF8 bytes, where the text segment takes so much room: the mapping table follows
--- it, then the image table, the image text table and the path; slide information stands behind the text,
--- and the merged linkedit a page behind that
-abbrev pub header_fields : ℕ → List ℕ → List Field
-header_fields room uuid =
-    Identifier magic ∷ U32 0xF8 ∷ U32 3 ∷ U32 0x158 ∷ U32 1 ∷ Zeros 0x18 ∷ U64 (0x1000 + room) ∷ U64 40 ∷ Zeros 0x10
-    ∷ Identifier uuid ∷ Zeros 0x20 ∷ U64 0x178 ∷ U64 1 ∷ Zeros 0x40 ∷ U32 1 ∷ Zeros 4
-    ∷ U64 region_start ∷ U64 region_size ∷ U64 (region_size - (0x3000 + room)) ∷ []
+-- where the first segment goes
+abbrev pub text_address : List Moved → ℕ
+text_address moves = (slice_index_or moves 0 (record { address = 0; file = 0 })).address
 
--- dyld_cache_mapping_info: address, size, offset in the file and protection
-abbrev pub mapping_fields : ℕ → ℕ → ℕ → List Field
-mapping_fields file size protection =
-    U64 (region_start + file) ∷ U64 size ∷ U64 file ∷ U32 protection ∷ U32 protection ∷ []
+-- an image has its header at the start of its text segment
+abbrev pub entry_of : Laid → ℕ → Img → Entry
+entry_of l k image = record {
+  address = text_address (slice_index_or l.moves k []);
+  path = image.install_name;
+  uuid = image.uuid;
+  text_size = text_size image.segments;
+}
 
--- text, data of no size, and linkedit
-abbrev pub mapping_table : ℕ → List Field
-mapping_table room =
-    mapping_fields 0 (0x1000 + room) 5 ++ (mapping_fields (0x1000 + room) 0 3 ++ mapping_fields (0x1000 + room) 0x2000 1)
-
--- dyld_cache_image_info and dyld_cache_image_text_info
-abbrev pub image_tables : List ℕ → ℕ → List Field
-image_tables uuid size =
-    U64 (region_start + 0x1000) ∷ U64 0 ∷ U64 0 ∷ U32 0x198 ∷ U32 0
-    ∷ Identifier uuid ∷ U64 (region_start + 0x1000) ∷ U32 size ∷ U32 0x198 ∷ []
-
-abbrev pub head_fields : ℕ → List ℕ → List ℕ → ℕ → List Field
-head_fields room uuid image_uuid size = header_fields room uuid ++ (mapping_table room ++ image_tables image_uuid size)
-
-unfoldable pub head_of : ℕ → List ℕ → List ℕ → ℕ → List ℕ → List ℕ
-head_of room uuid image_uuid size path = spelled (head_fields room uuid image_uuid size) ++ (path ++ 0 ∷ [])
+-- the text mapping begins with the head, and the linkedit mapping with the read-only segments
+unfoldable pub head_of : Laid → List Img → Head
+head_of l images = record {
+  mappings = three_mappings l.writable.at l.writable.len (span_of l - (l.writable.at + l.writable.len));
+  images = numbered (entry_of l) images;
+  slide_info = record { at = slide_place l; len = slide_size l };
+  uuid = identifier_of (map (λ (i : Img). i.uuid) images);
+  max_slide = region_size - span_of l;
+}

@@ -2,7 +2,6 @@ pub mod Always
 pub mod Breaks
 pub mod Built
 pub mod Cache
+pub mod Fits
 pub mod Head
-pub mod Header
-pub mod Identifier
-pub mod Plain
+pub mod Places

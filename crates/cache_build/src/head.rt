@@ -1,113 +1,140 @@
-// The head of a cache: the header, the tables and the path. Names are those of dyld_cache_format.h.
-ghost use Rattle.std.specs.Prelude.{◌≡◌, ◌≤◌, ◌+◌, IfOk};
-ghost use Rattle.dsc_base.specs.Fields.{spelled};
-ghost use Rattle.cache_build.specs.Head.{header_fields, mapping_fields, mapping_table, image_tables, head_of};
+// The head of the cache of a set of images.
+ghost use Rattle.std.specs.Prelude.{◌≡◌, ◌≤◌, ◌<◌, ◌+◌, ◌-◌, ◌^◌, map, length, All, IfOk};
+ghost use Rattle.dsc_base.specs.Region.{region_start};
+ghost use Rattle.cache_header.specs.Spelling.{head_bytes};
+ghost use Rattle.cache_layout.specs.Places.{numbered};
+ghost use Rattle.load_model.specs.Mapped.{three_mappings};
+ghost use Rattle.cache_build.specs.Places.{frame_of};
+ghost use Rattle.cache_build.specs.Head.{text_address, text_size, entry_of, head_of};
+ghost use Rattle.cache_build.specs.Fits.{CanAssemble};
 
-use dsc_base::{Field, NoMemory, PAGE, REGION_SIZE, REGION_START, spell_fields};
+use crate::frame::Frame;
+use cache_header::{CacheHead, Mapping, TableImage, cache_uuid, write_cache_head};
+use cache_layout::Layout;
+use dsc_base::{Name, NoMemory, REGION_SIZE, REGION_START, Span};
+use macho_image::{Image, Moves, Segment};
 use std::alloc::Global;
 
-const MAGIC: [u8; 16] = *b"dyld_v1  x86_64\0";
+/// Protections of mach/vm_prot.h: read and execute, read and write, and read.
+const READ_EXECUTE: u32 = 5;
 
-/// dyld_cache_header of a cache whose text segment takes `room` bytes.
-fn header(alloc: Global, room: u64, uuid: [u8; 16]) -> Result<Vec<u8>, NoMemory>
-    requires { room ≤ 0x2000_0000 }
-    ensures { IfOk result (λ v. v.items ≡ spelled (header_fields room uuid)) }
+const READ_WRITE: u32 = 3;
+
+const READ: u32 = 1;
+
+/// A mapping of a cache, at the address of its place in the file.
+fn mapping(file: u64, size: u64, protection: u32) -> Mapping
+    requires { file ≤ 0x2000_0000 }
+    ensures { result ≡ record { address = region_start + file; size = size; file = file; max_prot = protection; init_prot = protection } }
 {
-    spell_fields(
-        alloc,
-        &[
-            Field::Identifier(MAGIC),
-            Field::U32(0xF8),
-            Field::U32(3),
-            Field::U32(0x158),
-            Field::U32(1),
-            Field::Zeros(0x18),
-            Field::U64(PAGE + room),
-            Field::U64(40),
-            Field::Zeros(0x10),
-            Field::Identifier(uuid),
-            Field::Zeros(0x20),
-            Field::U64(0x178),
-            Field::U64(1),
-            Field::Zeros(0x40),
-            Field::U32(1),
-            Field::Zeros(4),
-            Field::U64(REGION_START),
-            Field::U64(REGION_SIZE),
-            Field::U64(REGION_SIZE - (3 * PAGE + room)),
-        ],
-    )
+    Mapping {
+        address: REGION_START + file,
+        size,
+        file,
+        max_prot: protection,
+        init_prot: protection,
+    }
 }
 
-/// Three dyld_cache_mapping_info: text, data of no size, and linkedit.
-fn mappings(alloc: Global, room: u64) -> Result<Vec<u8>, NoMemory>
-    requires { room ≤ 0x2000_0000 }
-    ensures { IfOk result (λ v. v.items ≡ spelled (mapping_table room)) }
+/// The text mapping with the head, the data mapping, and the linkedit mapping up to the cache's end.
+fn mappings(alloc: Global, writable: Span, span: u64) -> Result<Vec<Mapping>, NoMemory>
+    requires within { writable.at + writable.len ≤ span }
+    requires small { span ≤ 0x2000_0000 }
+    ensures { IfOk result (λ v. v.items ≡ three_mappings writable.at writable.len (span - (writable.at + writable.len))) }
 {
-    let text_size = PAGE + room;
-    let behind_text = REGION_START + text_size;
-    spell_fields(
-        alloc,
-        &[
-            Field::U64(REGION_START),
-            Field::U64(text_size),
-            Field::U64(0),
-            Field::U32(5),
-            Field::U32(5),
-            Field::U64(behind_text),
-            Field::U64(0),
-            Field::U64(text_size),
-            Field::U32(3),
-            Field::U32(3),
-            Field::U64(behind_text),
-            Field::U64(2 * PAGE),
-            Field::U64(text_size),
-            Field::U32(1),
-            Field::U32(1),
-        ],
-    )
+    let end = writable.at + writable.len;
+    let mut mappings = Vec::with_capacity(alloc, 3)?;
+    mappings.push(mapping(0, writable.at, READ_EXECUTE))?;
+    mappings.push(mapping(writable.at, writable.len, READ_WRITE))?;
+    mappings.push(mapping(end, span - end, READ))?;
+    Ok(mappings)
 }
 
-/// dyld_cache_image_info and dyld_cache_image_text_info of the one image.
-fn images(alloc: Global, uuid: [u8; 16], text_size: u32) -> Result<Vec<u8>, NoMemory>
-    ensures { IfOk result (λ v. v.items ≡ spelled (image_tables uuid text_size)) }
+/// The address of an image's first segment, which begins with its header.
+fn text_address(moves: &Moves) -> u64
+    ensures { result ≡ text_address moves.now }
 {
-    spell_fields(
-        alloc,
-        &[
-            Field::U64(REGION_START + PAGE),
-            Field::U64(0),
-            Field::U64(0),
-            Field::U32(0x198),
-            Field::U32(0),
-            Field::Identifier(uuid),
-            Field::U64(REGION_START + PAGE),
-            Field::U32(text_size),
-            Field::U32(0x198),
-        ],
-    )
+    match moves.segments.first() {
+        Some(moved) => moved.address,
+        None => 0,
+    }
 }
 
-/// The head of a cache with one image at `path`, whose text segment has `text_size` bytes and takes
-/// `room`; `uuid` identifies the cache.
-#[tactic(auto, using(crate::proofs::HeadLaws::head_joined))]
+/// The size in memory of the first segment, in bytes.
+fn text_size(segments: &[Segment<'_>]) -> u64
+    ensures { result ≡ text_size segments.now }
+{
+    match segments.first() {
+        Some(text) => text.vmsize,
+        None => 0,
+    }
+}
+
+/// What the tables tell of an image.
+fn entry(alloc: Global, image: &Image<'_>, moves: &Moves) -> Result<TableImage, NoMemory>
+    requires { text_size image.now.segments < 2 ^ 32 }
+    ensures { IfOk result (λ e. e ≡ record { address = text_address moves.now; path = image.now.install_name; uuid = image.now.uuid; text_size = text_size image.now.segments }) }
+{
+    Ok(TableImage {
+        address: text_address(moves),
+        path: Name::from_slice(alloc, image.install_name)?,
+        uuid: image.uuid,
+        text_size: text_size(&image.segments) as u32,
+    })
+}
+
+/// What the tables tell of all images.
+fn entries(
+    alloc: Global,
+    images: &[Image<'_>],
+    layout: &Layout,
+) -> Result<Vec<TableImage>, NoMemory>
+    requires few { length images.now ≤ 4096 }
+    requires one_each { length layout.now.moves ≡ length images.now }
+    requires texts { All (λ i. text_size i.segments < 2 ^ 32) images.now }
+    ensures { IfOk result (λ v. v.items ≡ numbered (entry_of layout.now) images.now) }
+{
+    let mut entries = Vec::with_capacity(alloc, images.len())?;
+    for (number, image) in images.iter().enumerate() {
+        let entry = entry(alloc, image, layout.moves(number as u32))?;
+        entries.push(entry)?;
+    }
+    Ok(entries)
+}
+
+/// The identifiers of the images.
+fn identifiers(alloc: Global, images: &[Image<'_>]) -> Result<Vec<[u8; 16]>, NoMemory>
+    ensures { IfOk result (λ v. v.items ≡ map (λ i. i.uuid) images.now) }
+{
+    let mut identifiers = Vec::with_capacity(alloc, images.len())?;
+    for image in images {
+        identifiers.push(image.uuid)?;
+    }
+    Ok(identifiers)
+}
+
+/// The head of the cache of these images, as bytes.
+#[tactic(auto, unfolding(crate::specs::Head::head_of, crate::specs::Places::frame_of))]
 pub fn cache_head(
     alloc: Global,
-    room: u64,
-    uuid: [u8; 16],
-    image_uuid: [u8; 16],
-    text_size: u32,
-    path: &[u8],
+    images: &[Image<'_>],
+    layout: &Layout,
+    frame: &Frame,
 ) -> Result<Vec<u8>, NoMemory>
-    requires { room ≤ 0x2000_0000 }
-    ensures { IfOk result (λ v. v.items ≡ head_of room uuid image_uuid text_size path.now) }
+    requires assembles { CanAssemble layout.now images.now }
+    requires frame { frame.now ≡ frame_of layout.now }
+    ensures { IfOk result (λ v. v.items ≡ head_bytes (head_of layout.now images.now)) }
 {
-    let mut head = header(alloc, room, uuid)?;
-    let mappings = mappings(alloc, room)?;
-    head.extend_from_slice(&mappings)?;
-    let images = images(alloc, image_uuid, text_size)?;
-    head.extend_from_slice(&images)?;
-    head.extend_from_slice(path)?;
-    head.push(0)?;
-    Ok(head)
+    let head = CacheHead {
+        mappings: mappings(alloc, layout.writable(), frame.span)?,
+        images: entries(alloc, images, layout)?,
+        slide_info: Span {
+            at: frame.slide_at,
+            len: frame.slide_size,
+        },
+        uuid: cache_uuid(alloc, &identifiers(alloc, images)?)?,
+        max_slide: REGION_SIZE - frame.span,
+    };
+    let bytes = write_cache_head(alloc, &head)?;
+    Ok(bytes)
 }

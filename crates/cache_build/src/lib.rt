@@ -1,11 +1,14 @@
 //! Builds a cache of dylibs, or names the first rule that they break.
 #![tactic(auto)]
 
+mod accept;
 mod assemble;
 mod builder;
+mod duplicates;
+mod frame;
 mod head;
-mod header;
-mod identifier;
+mod headers;
 mod not_yet;
+mod segments;
 
 pub use builder::{Options, build};

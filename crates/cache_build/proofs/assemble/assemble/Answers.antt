@@ -1,21 +1,25 @@
-use Rattle.std.proofs.Common.{◌∙◌, ◌-◌, length, take, drop, ap, List, ℕ}
-use Rattle.std.proofs.lemmas.List.{take_rest}
-use Rattle.cache_build.specs.declared.header.SegmentMove.{SegmentMove}
-use Rattle.cache_build.specs.Head.{head_of}
-use Rattle.cache_build.specs.Header.{cached_header}
-use Rattle.cache_build.proofs.JoinLaws.{joined_from}
+use Rattle.std.proofs.Common.{ℕ, ◌-◌, ◌++◌, [], List, Vec, Global, map, ap, ◌∙◌}
+use Rattle.dsc_base.specs.declared.fault.Span.{Span}
+use Rattle.slide_chain.specs.Info.{info_bytes}
+use Rattle.slide_chain.specs.Making.{info_of}
+use Rattle.cache_layout.specs.declared.mapping.Mapping.{Mapping}
+use Rattle.cache_layout.specs.declared.mapping.Mapping.TheVariants.{Text, Writable, Fixed}
+use Rattle.cache_layout.specs.Parts.{mapping_part}
+use Rattle.cache_build.specs.Cache.{all_pages}
+use Rattle.cache_build.proofs.AssembleLaws.{assembled, frame_room}
 use Rattle.cache_build.proofs.assemble.assemble.Goals as goal
 
 pub returns : goal.returns
-returns c =
-    let header : List ℕ = c.args.parts.now.header.now in
-    let text : List ℕ = c.args.parts.now.text.now in
-    joined_from c.args.parts.now.text_size c.page_up-room.result c.args.parts.now.uuid c.args.parts.now.path.now header text
-    c.deref.result.now c.deref-2.result.now (take (length text - length header) (drop (length header) text)) c.deref-3.result.now c.in_ok-cache.cache.items
-    c.page_up-room.ensures.value
-    (c.deref.ensures.value ∙ (c.in_ok-head.ensures
-    ∙ ap (λ (u : List ℕ). head_of c.page_up-room.result u c.args.parts.now.uuid c.args.parts.now.text_size c.args.parts.now.path.now) c.cache_identifier-uuid.ensures))
-    (c.deref-2.ensures.value ∙ (c.in_ok-header.ensures ∙ ap (λ (p : List SegmentMove). cached_header p header) c.places.ensures))
-    (take_rest text (length header))
-    (c.deref-3.ensures.value ∙ c.in_ok-slide_info.ensures)
-    c.in_ok-cache.ensures
+returns g c =
+    let items = λ (v : Vec ℕ Global). v.items in
+    let part = λ (before : List ℕ) (m : Mapping) (hs : List (Vec ℕ Global)). before ++ mapping_part m (all_pages (map items hs) c.args.images.now) c.args.images.now in
+    assembled c.args.layout.now c.args.images.now (map items c.in_ok-headers.headers.items) c.deref.result.now c.deref-5.result.now c.text.result.at (c.args.frame.now.linkedit_at - c.args.frame.now.slide_at) c.in_ok-cache.cache.items c.append_padded.new.cache.items c.append_mapping.new.cache.items
+    c.append_mapping-2.new.cache.items c.append_mapping-3.new.cache.items c.append_padded-2.new.cache.items c.append_padded-3.new.cache.items
+    c.in_ok-headers.ensures.headers (c.deref.ensures.value ∙ c.in_ok-head.ensures)
+    (c.deref-5.ensures.value ∙ (c.in_ok-slide_info.ensures ∙ ap (λ (s : Span). info_bytes (info_of 16 s.len [])) c.writable.ensures))
+    (ap (λ (s : Span). s.at) c.text.ensures) (frame_room c.args.layout.now c.args.frame.now c.requires.frame)
+    c.in_ok-cache.ensures.items c.in_ok-append_padded.ensures
+    (c.in_ok-append_mapping.ensures ∙ ap (part c.append_padded.new.cache.items Text) c.deref-2.ensures.value)
+    (c.in_ok-append_mapping-2.ensures ∙ ap (part c.append_mapping.new.cache.items Writable) c.deref-3.ensures.value)
+    (c.in_ok-append_mapping-3.ensures ∙ ap (part c.append_mapping-2.new.cache.items Fixed) c.deref-4.ensures.value)
+    c.in_ok-append_padded-2.ensures c.in_ok-append_padded-3.ensures

@@ -1,0 +1,212 @@
+-- Sound images with a layout make a cache.
+use Rattle.std.proofs.Common.{◌≡◌, ◌≤◌, ◌<◌, ℕ, ◌+◌, Bool, true, false, not, ◌&&◌, ◌||◌, cond, if◌then◌else◌, nat_eq, nat_le, nat_lt, Option, Some, None, option_map, List, [], ◌∷◌, length, map, get_or, refl, sym, ap, ◌∙◌, arith}
+use Rattle.std.specs.Prelude.{find, slice_get, slice_index_or}
+use Rattle.std.specs.List.{list_any}
+use Rattle.std.proofs.lemmas.Bool.Decides.{nat_tests}
+use Rattle.std.proofs.lemmas.List.{get_or_default, length-map}
+use Rattle.std.proofs.lemmas.Option.{get_or_from_slice_get}
+use Rattle.std.proofs.Math.ListN.{get_or-map}
+use Rattle.dsc_base.specs.Numbers.{number_at}
+use Rattle.dsc_base.specs.declared.rule.Rule.TheVariants.{NoInstallName}
+use Rattle.macho_image.specs.Records.{Seg, Img, Load, SegmentLoad}
+use Rattle.macho_image.specs.declared.place.Moved.{Moved}
+use Rattle.macho_image.specs.Macho.{header_size, commands_of, loads_of, pieces_of, number_of, segment_loads, segment_with, command_where, install_name_of, is_install_name, is_dylib, dylib_name}
+use Rattle.macho_image.specs.Rules.{is_text, is_good_text, is_plain_name, is_linkedit_segment, misplaced, misplaced_behind, breaks_name_text, breaks_no_install_name}
+use Rattle.macho_image.specs.Breaks.{header_break, command_break, unread, IsSound}
+use Rattle.macho_image.proofs.Images.{pieces_of-loads_from}
+use Rattle.macho_image.proofs.Unbroken.{or_none, broken_none}
+use Rattle.macho_edit.specs.Conditions.{AreLow}
+use Rattle.cache_header.specs.Paths.{is_plain_path}
+use Rattle.cache_layout.specs.declared.mapping.Mapping.TheVariants.{Writable}
+use Rattle.cache_layout.specs.Layouts.{layout_of, layout_break}
+use Rattle.cache_layout.specs.Apart.{IsSegment, AreInTurn, move_at}
+use Rattle.cache_layout.proofs.SoundLaws.{sound_rules, shape_parts, both, load-of, sound_linkedit}
+use Rattle.cache_layout.proofs.SpaceLaws.{sound_space}
+use Rattle.cache_layout.proofs.RoomLaws.{paged-covers}
+use Rattle.cache_layout.proofs.PlaceLaws.{length-moves, length-moves-of, are_in_turn, are_within}
+use Rattle.cache_build.specs.Places.{linkedit_place, span_of}
+use Rattle.cache_build.specs.Head.{text_size}
+use Rattle.cache_build.specs.Cache.{spots_at}
+use Rattle.cache_build.specs.Fits.{HasRoom, Fits, CanMoveAll, CanAssemble}
+
+-- ---- the path
+
+found_none : (b : Bool) (l : Load) (o : Option Load) → option_map (λ (k : Load). k.at) (cond b (Some l) o) ≡ None → (b ≡ false) × (option_map (λ (k : Load). k.at) o ≡ None)
+found_none true l o e = absurd (cc)
+found_none false l o e = (refl, e)
+
+plain_of : (a b p : Bool) → ((a || b) && not p) ≡ false → a ≡ true → p ≡ true
+plain_of true b true e is = refl
+plain_of true b false e is = absurd (cc)
+plain_of false b p e is = absurd (cc)
+
+and_true : (a b : Bool) → a ≡ true → b ≡ true → (a && b) ≡ true
+and_true true b is other = other
+and_true false b is other = absurd (cc)
+
+plain_path : (c : List ℕ) → is_plain_name c ≡ true → is_plain_path (dylib_name c) ≡ true
+unfolding is_plain_path
+plain_path c plain =
+    let one = both (nat_le 24 (number_at 4 c 8)) _ plain in
+    let two = both (nat_lt (number_at 4 c 8 + length (dylib_name c)) (length c)) _ one.1 in
+    two.1
+
+name_found : (b : Bool) (c : List ℕ) (o : Option (List ℕ)) → (b ≡ true → is_plain_path (dylib_name c) ≡ true) → (b ≡ false → is_plain_path (install_name_of o) ≡ true) → is_plain_path (install_name_of (cond b (Some c) o)) ≡ true
+name_found true c o here later = here refl
+name_found false c o here later = later refl
+
+rest_has : (a b : Bool) → (a || b) ≡ true → a ≡ false → b ≡ true
+rest_has true b has isnt = absurd (cc)
+rest_has false b has isnt = has
+
+names_plain : (ls : List Load) → breaks_name_text ls ≡ None → list_any (λ (l : Load). is_install_name (number_of l.bytes)) ls ≡ true → is_plain_path (install_name_of (command_where is_install_name (pieces_of ls))) ≡ true
+names_plain [] none some = absurd (cc)
+names_plain (l ∷ ls) none some =
+    let parts = found_none (is_dylib (number_of l.bytes) && not (is_plain_name l.bytes)) l (find (λ (k : Load). is_dylib (number_of k.bytes) && not (is_plain_name k.bytes)) ls) none in
+    name_found (is_install_name (number_of l.bytes)) l.bytes (command_where is_install_name (pieces_of ls))
+    (λ is. plain_path l.bytes (plain_of (is_install_name (number_of l.bytes)) _ (is_plain_name l.bytes) parts.0 is))
+    (λ isnt. names_plain ls parts.1 (rest_has (is_install_name (number_of l.bytes)) (list_any (λ (k : Load). is_install_name (number_of k.bytes)) ls) some isnt))
+
+has_name : (ls : List Load) → breaks_no_install_name ls ≡ None → list_any (λ (l : Load). is_install_name (number_of l.bytes)) ls ≡ true
+has_name ls none = yes (list_any (λ (l : Load). is_install_name (number_of l.bytes)) ls) none
+  where
+    yes : (b : Bool) → if◌then◌else◌ {A = Option ℕ} b None (Some 0) ≡ None → b ≡ true
+    yes true e = refl
+    yes false e = absurd (cc)
+
+command_rules : (ls : List Load) → command_break ls ≡ None → breaks_no_install_name ls ≡ None
+unfolding command_break
+command_rules ls none = broken_none NoInstallName _ (or_none _ _ (or_none _ _ (or_none _ _ none).1).1).0
+
+sound_install : (image : Img) → IsSound image → breaks_no_install_name (loads_of image.header) ≡ None
+unfolding header_break
+sound_install image sound = command_rules (loads_of image.header) (or_none _ _ (or_none _ _ sound.unbroken).1).0
+
+pub sound_path : (image : Img) → IsSound image → is_plain_path image.install_name ≡ true
+sound_path image sound =
+    ap is_plain_path (sound.install_name ∙ ap (λ (cs : List (List ℕ)). install_name_of (command_where is_install_name cs)) (sym (pieces_of-loads_from 32 (commands_of image.header))))
+    ∙ names_plain (loads_of image.header) (sound_rules image sound).names (has_name (loads_of image.header) (sound_install image sound))
+
+-- ---- the header in the text segment
+
+good_first : (size : ℕ) (ls : List SegmentLoad) (l : SegmentLoad) → misplaced size ls ≡ None → 0 < length ls → l ≡ get_or ls 0 l → is_good_text size l ≡ true
+good_first size [] l none some at = absurd (omega arith)
+good_first size (k ∷ ls) l none some at = ap (is_good_text size) at ∙ yes (is_good_text size k) k.at (misplaced_behind ls) none
+  where
+    yes : (b : Bool) (n : ℕ) (o : Option ℕ) → (if b then o else Some n) ≡ None → b ≡ true
+    yes true n o e = refl
+    yes false n o e = absurd (cc)
+
+pub sound_begins : (image : Img) → IsSound image → HasRoom image.header image.segments
+sound_begins image sound s found =
+    let ls : List SegmentLoad = segment_loads (loads_of image.header) in
+    let size : ℕ = header_size image.header in
+    let at : s ≡ get_or image.segments 0 s = sym (get_or_from_slice_get image.segments 0 s s found) in
+    let some : 0 < length image.segments = there image.segments s found in
+    let command = load-of image.segments ls sound.segments 0 s some at in
+    let good = both (is_text command.0) _ (good_first size ls command.0 (shape_parts size ls (sound_rules image sound).shape).3 command.1 command.2) in
+    let room : nat_le size command.0.filesize ≡ true = (both (nat_eq command.0.initprot 5) _ good.1).1 in
+    let same : s.filesize ≡ command.0.filesize = ap (λ (t : Seg). t.filesize) command.3 in
+    let long : length s.bytes ≡ s.filesize =
+    ap (λ (t : Seg). length t.bytes) at ∙ (sym (get_or-map (λ (t : Seg). length t.bytes) image.segments 0 s)
+    ∙ (ap (λ (ns : List ℕ). get_or ns 0 (length s.bytes)) sound.sizes
+    ∙ (get_or_default (map (λ (t : Seg). t.filesize) image.segments) 0 (length s.bytes) s.filesize (omega (arith, some, length-map image.segments (λ (t : Seg). t.filesize)))
+    ∙ (get_or-map (λ (t : Seg). t.filesize) image.segments 0 s ∙ sym (ap (λ (t : Seg). t.filesize) at))))) in
+    let le : size ≤ command.0.filesize = grind (arith, nat_tests) in
+    omega (arith, sound.whole, le, same, long)
+  where
+    there : (ss : List Seg) (t : Seg) → slice_get ss 0 ≡ Some t → 0 < length ss
+    there [] t is = absurd (cc)
+    there (u ∷ ss) t is = omega arith
+
+-- ---- the set
+
+pub low_end : (images : List Img) → layout_break images ≡ None → (k g : ℕ) (i : Img) (s : Seg) → IsSegment images k g i s → is_linkedit_segment s ≡ false
+    → (move_at (layout_of images) k g).file + s.vmsize ≤ 0x20000000
+low_end images none k g i s there owned =
+    let own = are_within images none k g i s there owned in
+    omega (arith, own.2.end, own.2.span, paged-covers s.vmsize)
+
+pub two_segments : (image : Img) → IsSound image → 2 ≤ length image.segments
+two_segments image sound =
+    let ls : List SegmentLoad = segment_loads (loads_of image.header) in
+    let few : nat_lt (length ls) 2 ≡ false = (shape_parts (header_size image.header) ls (sound_rules image sound).shape).0 in
+    let long : length image.segments ≡ length ls = sym (length-map image.segments unread) ∙ (ap (λ (ts : List Seg). length ts) sound.segments ∙ length-map ls (segment_with [])) in
+    let some : 2 ≤ length ls = grind (arith, nat_tests) in
+    omega (arith, some, long)
+
+text_first : (ss : List Seg) (d : Seg) → 0 < length ss → text_size ss ≡ (get_or ss 0 d).vmsize
+text_first [] d some = absurd (omega arith)
+text_first (s ∷ ss) d some = refl
+
+pub no_segment : Seg
+no_segment = record { name = []; vmaddr = 0; vmsize = 0; fileoff = 0; filesize = 0; maxprot = 0; initprot = 0; flags = 0; bytes = [] }
+
+abbrev pub AreSound : List Img → Type 0
+AreSound images = (k : ℕ) (d : Img) → k < length images → IsSound (get_or images k d)
+
+text_low : (images : List Img) (k : ℕ) (i : Img) → layout_break images ≡ None → k < length images → i ≡ get_or images k i → IsSound i → text_size i.segments ≤ 0x20000000
+text_low images k i none lt at sound =
+    let some : 2 ≤ length i.segments = two_segments i sound in
+    let s : Seg = get_or i.segments 0 no_segment in
+    let own : get_or i.segments 0 no_segment ≡ get_or i.segments 0 s = get_or_default i.segments 0 no_segment s (omega (arith, some)) in
+    let owned : is_linkedit_segment s ≡ false = (sound_linkedit i sound 0 s (omega (arith, some)) own).0 (omega (arith, some)) in
+    let there : IsSegment images k 0 i s = record { image_in = lt; image_is = at; segment_in = omega (arith, some); segment_is = own } in
+    let end : (move_at (layout_of images) k 0).file + s.vmsize ≤ 0x20000000 = low_end images none k 0 i s there owned in
+    omega (arith, end, text_first i.segments no_segment (omega (arith, some)))
+
+pub image_fits : (images : List Img) (k : ℕ) (i : Img) → layout_break images ≡ None → k < length images → i ≡ get_or images k i → IsSound i → Fits i
+image_fits images k i none lt at sound = record {
+  low = λ g d below. let space = sound_space i sound g (get_or i.segments g d) below (get_or_default i.segments g d (get_or i.segments g d) below) in omega (arith, space.1);
+  begins = sound_begins i sound;
+  path = sound_path i sound;
+  text = let low : text_size i.segments ≤ 0x20000000 = text_low images k i none lt at sound in omega (arith, low);
+}
+
+spots_low : (place : ℕ) → place ≤ 0x20000000 → AreLow (spots_at place)
+unfolding spots_at
+spots_low place low = record {
+  rebase = omega arith;
+  bind = omega arith;
+  lazy = omega arith;
+  exports = omega arith;
+  function_starts = omega arith;
+  data_in_code = omega arith;
+  symbols = omega arith;
+  indirect = omega arith;
+  strings = omega (arith, low);
+}
+
+pub can_move : (images : List Img) → AreSound images → layout_break images ≡ None → linkedit_place (layout_of images) ≤ 0x20000000 → CanMoveAll (layout_of images) images
+unfolding spots_at
+can_move images sound none low k i lt at =
+    let moves : List Moved = slice_index_or (layout_of images).moves k [] in
+    let one : length (get_or (layout_of images).moves k []) ≡ length i.segments = length-moves-of images k i lt at in
+    record {
+      one_each = one;
+      low = λ g m s below owned.
+          let within : g < length i.segments = omega (arith, below, one) in
+          let t : Seg = get_or i.segments g s in
+          let own : get_or i.segments g s ≡ get_or i.segments g t = get_or_default i.segments g s t within in
+          let there : IsSegment images k g i t = record { image_in = lt; image_is = at; segment_in = within; segment_is = own } in
+          let end : (move_at (layout_of images) k g).file + t.vmsize ≤ 0x20000000 = low_end images none k g i t there owned in
+          let same : (get_or moves g m).file ≡ (move_at (layout_of images) k g).file = ap (λ (v : Moved). v.file) (get_or_default moves g m (record { address = 0; file = 0 }) below) in
+          omega (arith, end, same);
+      spans = spots_low (linkedit_place (layout_of images)) low;
+      whole_symbols = refl;
+      whole_indirect = refl;
+    }
+
+pub can_assemble : (images : List Img) → length images ≤ 4096 → AreSound images → layout_break images ≡ None → span_of (layout_of images) ≤ 0x20000000 → CanAssemble (layout_of images) images
+can_assemble images few sound none small =
+    let turn : AreInTurn images (layout_of images) = are_in_turn images none in
+    record {
+      few = few;
+      one_each = length-moves images;
+      images = λ k d lt. image_fits images k (get_or images k d) none lt (get_or_default images k d (get_or images k d) lt) (sound k d lt);
+      moves = can_move images sound none (omega (arith, small));
+      head = omega (arith, turn.writable);
+      writable = omega (arith, turn.fixed);
+      pages = (turn.pages Writable).1;
+      span = small;
+    }

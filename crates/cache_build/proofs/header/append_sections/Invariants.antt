@@ -1,9 +1,0 @@
-use Rattle.std.proofs.Common.{◌≡◌, ◌-◌, ◌*◌, ◌/◌, ◌++◌, length, drop}
-use Rattle.cache_build.specs.Header.{moved_sections}
-use Rattle.cache_build.proofs.header.append_sections.Given as goal
-
--- what is written, and then the sections that are left, are all sections
-abbrev pub invariant-loop-k : goal.invariant-loop-k
-invariant-loop-k l =
-    l.out.items ++ moved_sections l.shift (length l.sections / 80 - l.k) (drop (80 * l.k) l.sections)
-    ≡ l.fn.out.items ++ moved_sections l.shift (length l.sections / 80) l.sections
