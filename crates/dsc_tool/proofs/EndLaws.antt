@@ -1,8 +1,7 @@
 -- How a run ends, by what its parts left.
-use Rattle.std.proofs.Common.{◌≡◌, ◌⊎◌, ℕ, List, [], ◌∷◌, length, string_bytes, Option, ap, sym, ◌∙◌, subst, inl, inr}
+use Rattle.std.proofs.Common.{◌≡◌, ◌⊎◌, ℕ, List, length, string_bytes, Option, ap, sym, ◌∙◌, subst, inl, inr}
 use Rattle.dsc_base.specs.Outside.{Files, LeavesPrefix, AppendsPrefix, with_file}
 use Rattle.cache_build.specs.Built.{built}
-use Rattle.cache_build.proofs.Theorem.{set_corresponds}
 use Rattle.dsc_tool.specs.declared.product.Product.{Product}
 use Rattle.dsc_tool.specs.declared.status.Status.{Status}
 use Rattle.dsc_tool.specs.declared.status.Status.TheVariants.{Done, Refused, BadWords, ReadFault, WriteFault, Memory, Differs}
@@ -16,14 +15,14 @@ use Rattle.dsc_tool.specs.Streams.{World, appended}
 use Rattle.dsc_tool.specs.Texts.{text_of, built_line}
 use Rattle.dsc_tool.specs.Words.{Order}
 
--- the product's file and line are those of the accepted input
-file_of : (files : Option Files) (order : Order) (bytes : List ℕ) (p : Product) → IsProductOf order bytes p
-    → with_file files p.name p.cache.items ≡ with_file files order.out (built (bytes ∷ []))
+-- the product's file and line are those of the accepted inputs
+file_of : (files : Option Files) (order : Order) (bytes : List (List ℕ)) (p : Product) → IsProductOf order bytes p
+    → with_file files p.name p.cache.items ≡ with_file files order.out (built bytes)
 file_of files order bytes p is =
     ap (λ (n : List ℕ). with_file files n p.cache.items) is.name ∙ ap (λ (c : List ℕ). with_file files order.out c) is.cache
 
-line_of : (order : Order) (bytes : List ℕ) (p : Product) → IsProductOf order bytes p → string_bytes p.line ≡ built_line 1 (length (built (bytes ∷ [])))
-line_of order bytes p is = is.line ∙ ap (λ (c : List ℕ). built_line 1 (length c)) is.cache
+line_of : (order : Order) (bytes : List (List ℕ)) (p : Product) → IsProductOf order bytes p → string_bytes p.line ≡ built_line (length bytes) (length (built bytes))
+line_of order bytes p is = is.line ∙ ap (λ (c : List ℕ). built_line (length bytes) (length c)) is.cache
 
 done : (words : List (List ℕ)) (before after : World) (gets : ℕ) (p : Product) → IsProduct words before.files p
     → IsDelivered p (record before { get_faults = gets }) after → IsDone words before after
@@ -32,16 +31,16 @@ done words before after gets p (order, bytes, accepted, is) all =
       order = order;
       bytes = bytes;
       accepted = accepted;
-      corresponds = set_corresponds bytes accepted.read.within accepted.unbroken;
+      corresponds = is.corresponds;
       files = all.files ∙ file_of before.files order bytes p is;
       out = all.out ∙ ap (λ (line : List ℕ). appended before.out line) (line_of order bytes p is);
       err = all.err;
     }
 
--- the part of the product that was put is that part of the input's cache and line
-part_of : (before after : World) (order : Order) (bytes : List ℕ) (p : Product) → IsProductOf order bytes p
+-- the part of the product that was put is that part of the inputs' cache and line
+part_of : (before after : World) (order : Order) (bytes : List (List ℕ)) (p : Product) → IsProductOf order bytes p
     → IsFilePart before after p.name p.cache.items ⊎ IsLinePart before after p.name p.cache.items (string_bytes p.line)
-    → IsFilePart before after order.out (built (bytes ∷ [])) ⊎ IsLinePart before after order.out (built (bytes ∷ [])) (built_line 1 (length (built (bytes ∷ []))))
+    → IsFilePart before after order.out (built bytes) ⊎ IsLinePart before after order.out (built bytes) (built_line (length bytes) (length (built bytes)))
 part_of before after order bytes p is (inl part) = inl (record {
   fault = part.fault;
   files = subst (λ (c : List ℕ). LeavesPrefix before.files after.files order.out c) is.cache (subst (λ (n : List ℕ). LeavesPrefix before.files after.files n p.cache.items) is.name part.files);
@@ -67,7 +66,7 @@ cut_short words before after gets p (order, bytes, accepted, is) some =
       order = order;
       bytes = bytes;
       accepted = accepted;
-      part = same_gets before after gets order.out (built (bytes ∷ [])) (built_line 1 (length (built (bytes ∷ [])))) (part_of (record before { get_faults = gets }) after order bytes p is some.part);
+      part = same_gets before after gets order.out (built bytes) (built_line (length bytes) (length (built bytes))) (part_of (record before { get_faults = gets }) after order bytes p is some.part);
       err = some.err;
     }
 
@@ -99,7 +98,7 @@ delivered words before after gets p BadWords is never = absurd never
 delivered words before after gets p ReadFault is never = absurd never
 delivered words before after gets p Differs is never = absurd never
 
--- where the store is as before the input was read, but for its count of failed gets
+-- where the store is as before the inputs were read, but for its count of failed gets
 pub ends-delivered : (words : List (List ℕ)) (before after : World) (files : Option Files) (gets puts : ℕ) (p : Product) (status : Status) → files ≡ before.files
     → puts ≡ before.put_faults → IsProduct words before.files p → Delivers p (record before { files = files; get_faults = gets; put_faults = puts }) after status
     → Ends words before after status
@@ -111,7 +110,7 @@ ends-delivered words before after files gets puts p status same kept is went =
 -- a stop that was told of has its own status
 stopped : (words : List (List ℕ)) (before after : World) (stop : Stop) → IsStopped words before after stop → Ends words before after (status_of stop)
 stopped words before after NoCommand is = is
-stopped words before after (Unread input) is = subst (λ (i : ℕ). IsStopped words before after (Unread i)) is.cause.2.0 is
+stopped words before after (Unread input) is = (input, is)
 stopped words before after (Broken b) is = (b, is)
 stopped words before after NoMemory is = is
 

@@ -1,4 +1,7 @@
 pub mod EndLaws
+pub mod InputLaws
 pub mod OutputLaws
 pub mod PrefixLaws
+pub mod ReadingLaws
 pub mod ToldLaws
+pub mod WordLaws

@@ -1,5 +1,5 @@
 -- How a run over told files stands to its output.
-use Rattle.std.proofs.Common.{◌≡◌, ◌⊎◌, ℕ, List, [], ◌∷◌, Option, Some, Result, Ok, Err, refl, ap, sym, ◌∙◌, subst, inl, inr}
+use Rattle.std.proofs.Common.{◌≡◌, ◌<◌, ◌⊎◌, ℕ, List, [], length, Option, Some, Result, Ok, Err, refl, ap, sym, ◌∙◌, subst, inl, inr}
 use Rattle.dsc_base.specs.Outside.{Files, AppendsPrefix, with_file}
 use Rattle.cache_build.specs.Built.{built}
 use Rattle.dsc_tool.specs.declared.status.Status.{Status}
@@ -22,7 +22,7 @@ due_told : (words : List (List ℕ)) (files : Files) (before after : World) (sto
 due_told words files before after stop told due =
     subst (λ (f : Option Files). IsDue words f before.get_faults after.get_faults stop) told due
 
-accepted_told : (words : List (List ℕ)) (files : Files) (before : World) (order : Order) (bytes : List ℕ) → before.files ≡ Some files
+accepted_told : (words : List (List ℕ)) (files : Files) (before : World) (order : Order) (bytes : List (List ℕ)) → before.files ≡ Some files
     → IsAccepted words before.files order bytes → IsAccepted words (Some files) order bytes
 accepted_told words files before order bytes told accepted = subst (λ (f : Option Files). IsAccepted words f order bytes) told accepted
 
@@ -56,9 +56,10 @@ printed_none words files before after status other same is =
 
 -- the text of a stop is the output's, or that of a fault
 stop_text : (words : List (List ℕ)) (files : Files) (old new : ℕ) (stop : Stop) → IsDue words (Some files) old new stop
-    → (text_of stop ≡ (output words files).err) ⊎ IsFaultText (text_of stop)
+    → (text_of stop ≡ (output words files).err) ⊎ IsFaultText words (text_of stop)
 stop_text words files old new NoCommand due = inl (sym (ap (λ (o : Outcome). o.err) (output-bad_words words files due)))
-stop_text words files old new (Unread input) due = inr (inl (ap (λ (i : ℕ). text_of (Unread i)) due.2.0))
+stop_text words files old new (Unread input) (order, spelled, reading) =
+    inr (inl (order, input, spelled, subst (λ (i : ℕ). i < length order.inputs) (sym reading.cause.0) reading.inside, refl))
 stop_text words files old new (Broken b) due = inl (sym (ap (λ (o : Outcome). o.err) (output-refused words files old new b due)))
 stop_text words files old new NoMemory due = inr (inr (inr refl))
 
@@ -70,7 +71,7 @@ excused P before after status (inr rose) still = absurd (still rose)
 -- a run that stopped with a status that isn't settled
 unsettled : (words : List (List ℕ)) (files : Files) (before after : World) (status : Status) → (IsSettled status → ⊥) → (status ≡ Done → ⊥)
     → (status ≡ Memory) ⊎ AnyRose before after → after.out ≡ before.out
-    → ((text : List ℕ) × ((text ≡ (output words files).err) ⊎ IsFaultText text) × AppendsPrefix before.err text after.err)
+    → ((text : List ℕ) × ((text ≡ (output words files).err) ⊎ IsFaultText words text) × AppendsPrefix before.err text after.err)
     → IsByOutput words files before after status
 unsettled words files before after status never other why same told =
     record {
@@ -96,14 +97,14 @@ done_told words files before after told is =
     (sym (output-accepted words files is.order is.bytes (accepted_told words files before is.order is.bytes told is.accepted)))
     (record {
       status_is = refl;
-      files = is.files ∙ ap (λ (f : Option Files). with_file f is.order.out (built (is.bytes ∷ []))) told;
+      files = is.files ∙ ap (λ (f : Option Files). with_file f is.order.out (built is.bytes)) told;
       out = is.out;
       err = appended-none before.err after.err is.err;
     })
 
 -- what a stop tells of, whole
 stop_told : (words : List (List ℕ)) (files : Files) (before after : World) (stop : Stop) → before.files ≡ Some files → IsStopped words before after stop
-    → (text : List ℕ) × ((text ≡ (output words files).err) ⊎ IsFaultText text) × AppendsPrefix before.err text after.err
+    → (text : List ℕ) × ((text ≡ (output words files).err) ⊎ IsFaultText words text) × AppendsPrefix before.err text after.err
 stop_told words files before after stop told is = (
   text_of stop,
   stop_text words files before.get_faults after.get_faults stop (due_told words files before after stop told is.cause),
@@ -126,12 +127,12 @@ cut_told words files before after told cut =
       told = (cannot_write_line, inr (inr (inl refl)), elim cut.err [ inl all ↦ prefix-whole before.err after.err cannot_write_line all.1 | inr part ↦ part.2 ]);
     }
 
-read_told : (words : List (List ℕ)) (files : Files) (before after : World) → before.files ≡ Some files → IsStopped words before after (Unread 0)
+read_told : (words : List (List ℕ)) (files : Files) (before after : World) (input : ℕ) → before.files ≡ Some files → IsStopped words before after (Unread input)
     → IsByOutput words files before after ReadFault
-read_told words files before after told is =
-    elim (output-unread words files before.get_faults after.get_faults (due_told words files before after (Unread 0) told is.cause)) [
-      | inl rose ↦ unsettled words files before after ReadFault (λ never. never) (λ (never : ReadFault ≡ Done). cc) (inr (inl (inl rose))) is.out (stop_told words files before after (Unread 0) told is)
-      | inr ended ↦ exact words files before after ReadFault (stopped_told words files before after (Unread 0) told is ended)
+read_told words files before after input told is =
+    elim (output-unread words files before.get_faults after.get_faults input (due_told words files before after (Unread input) told is.cause)) [
+      | inl rose ↦ unsettled words files before after ReadFault (λ never. never) (λ (never : ReadFault ≡ Done). cc) (inr (inl (inl rose))) is.out (stop_told words files before after (Unread input) told is)
+      | inr ended ↦ exact words files before after ReadFault (stopped_told words files before after (Unread input) told is ended)
     ]
 
 pub by_output : (words : List (List ℕ)) (files : Files) (before after : World) (status : Status) → before.files ≡ Some files → Ends words before after status
@@ -143,7 +144,7 @@ by_output words files before after Refused told (b, is) =
     (output-refused words files before.get_faults after.get_faults b (due_told words files before after (Broken b) told is.cause)))
 by_output words files before after BadWords told is =
     exact words files before after BadWords (stopped_told words files before after NoCommand told is (output-bad_words words files is.cause))
-by_output words files before after ReadFault told is = read_told words files before after told is
+by_output words files before after ReadFault told (input, is) = read_told words files before after input told is
 by_output words files before after WriteFault told (inl un) =
     unsettled words files before after WriteFault (λ never. never) (λ (never : WriteFault ≡ Done). cc) (inr (inr (inr un.fault))) un.out
     (text_of un.stop, stop_text words files before.get_faults after.get_faults un.stop (due_told words files before after un.stop told un.cause), un.err)
@@ -152,7 +153,7 @@ by_output words files before after Memory told is =
     unsettled words files before after Memory (λ never. never) (λ (never : Memory ≡ Done). cc) (inl refl) is.out (stop_told words files before after NoMemory told is)
 by_output words files before after Differs told never = absurd never
 
--- after Done the cache of the told input is at its name
+-- after Done the cache of the told inputs is at its name
 pub built-told : (words : List (List ℕ)) (files : Files) (before after : World) → before.files ≡ Some files → IsDone words before after
     → IsBuilt words files after.files
 built-told words files before after told is =
@@ -161,10 +162,10 @@ built-told words files before after told is =
       order = is.order;
       bytes = is.bytes;
       spelled = accepted.read.spelled;
-      there = accepted.read.there;
+      inputs = accepted.read.inputs;
       unbroken = accepted.unbroken;
       corresponds = is.corresponds;
-      placed = is.files ∙ ap (λ (f : Option Files). with_file f is.order.out (built (is.bytes ∷ []))) told;
+      placed = is.files ∙ ap (λ (f : Option Files). with_file f is.order.out (built is.bytes)) told;
     }
 
 pub done-built : (words : List (List ℕ)) (files : Files) (before after : World) (status : Status) → before.files ≡ Some files → status ≡ Done

@@ -1,4 +1,5 @@
 pub mod Causes
+pub mod Inputs
 pub mod Output
 pub mod Ran
 pub mod Statuses

@@ -1,6 +1,7 @@
 -- What the parts of a run leave to one another.
-use Rattle.std.specs.Prelude.{◌≡◌, ◌⊎◌, ℕ, List, [], ◌∷◌, length, string_bytes, Option}
+use Rattle.std.specs.Prelude.{◌≡◌, ◌⊎◌, ℕ, List, length, string_bytes, Option}
 use Rattle.dsc_base.specs.Outside.{Files, Rose, AppendsPrefix, LeavesPrefix, with_file}
+use Rattle.cache_build.specs.Always.{CorrespondsAlways}
 use Rattle.cache_build.specs.Built.{built}
 use Rattle.dsc_tool.specs.declared.product.Product.{Product}
 use Rattle.dsc_tool.specs.declared.status.Status.{Status}
@@ -12,14 +13,15 @@ use Rattle.dsc_tool.specs.Streams.{World, appended}
 use Rattle.dsc_tool.specs.Texts.{text_of, built_line, no_memory_line, cannot_write_line}
 use Rattle.dsc_tool.specs.Words.{Order}
 
--- the product is the cache of the accepted input, and the line that tells of it
-pub record IsProductOf (order : Order) (bytes : List ℕ) (p : Product) : Type 0 where
+-- the product is the cache of the accepted inputs, which corresponds to them, and the line that tells of it
+pub record IsProductOf (order : Order) (bytes : List (List ℕ)) (p : Product) : Type 0 where
   pub name : p.name ≡ order.out
-  pub cache : p.cache.items ≡ built (bytes ∷ [])
-  pub line : string_bytes p.line ≡ built_line 1 (length p.cache.items)
+  pub cache : p.cache.items ≡ built bytes
+  pub corresponds : CorrespondsAlways bytes (built bytes)
+  pub line : string_bytes p.line ≡ built_line (length bytes) (length p.cache.items)
 
 abbrev pub IsProduct : List (List ℕ) → Option Files → Product → Type 0
-IsProduct words files p = (order : Order) × (bytes : List ℕ) × IsAccepted words files order bytes × IsProductOf order bytes p
+IsProduct words files p = (order : Order) × (bytes : List (List ℕ)) × IsAccepted words files order bytes × IsProductOf order bytes p
 
 -- the text was put and the status stands, or putting it failed
 abbrev pub Tells : List ℕ → Status → Option (List ℕ) → ℕ → Option (List ℕ) → ℕ → Status → Type 0

@@ -19,7 +19,7 @@ built_line images span = codes "built " ++ (decimal images ++ (codes " images, s
 
 -- on standard error
 unfoldable pub usage_line : List ℕ
-usage_line = codes "usage: dsc build OUT IN" ++ line_feed
+usage_line = codes "usage: dsc build OUT IN..." ++ line_feed
 
 unfoldable pub refused_line : Break → List ℕ
 refused_line b =

@@ -1,8 +1,9 @@
-//! `dsc`: builds the dyld shared cache of a dylib. `run` does what the words ask for, over any store and
+//! `dsc`: builds the dyld shared cache of dylibs. `run` does what the words ask for, over any store and
 //! any streams; `main` gives it the real ones.
 #![tactic(auto)]
 
 mod command;
+mod inputs;
 mod product;
 mod run;
 mod status;

@@ -15,9 +15,9 @@ use std::thread::Threads;
 
 /// Does what the words behind the program's name ask for, and answers how that ended.
 ///
-/// `build OUT IN` reads the file IN from the store, at most 67,108,864 bytes of it, puts its cache at OUT,
-/// and tells of it on `out`. Any other answer than `Done` is told of on `err`. Nothing is put before the
-/// input has passed all rules. Where a put on the store or a sink fails, the answer is `WriteFault`,
+/// `build OUT IN...` reads the files IN from the store in their order, at most 67,108,864 bytes of each and
+/// 536,870,912 of all, puts their cache at OUT, and tells of it on `out`. Any other answer than `Done` is
+/// told of on `err`. Nothing is put before the inputs have passed all rules. Where a put on the store or a sink fails, the answer is `WriteFault`,
 /// whatever it would have been.
 pub fn run<R: Threads, S: Store, O: Sink, E: Sink, G: Gate + Sync>(
     rt: &R,

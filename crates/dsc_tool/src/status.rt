@@ -7,7 +7,7 @@ ghost use Rattle.dsc_tool.specs.Statuses.{code_of};
 pub enum Status {
     /// Everything was done.
     Done,
-    /// The input breaks a rule.
+    /// The inputs break a rule.
     Refused,
     /// The words are no command.
     BadWords,

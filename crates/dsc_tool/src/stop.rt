@@ -5,9 +5,13 @@ ghost use Rattle.dsc_tool.specs.Stops.{words_stop, set_stop, get_stop};
 
 use crate::command::WordsFault;
 use dsc_base::{Break, GetFault, NoMemory, Rule, SetFault};
+use std::alloc::{AllocError, AllocFailed};
 
 /// The most bytes that a file may have.
 pub(crate) const FILE_LIMIT: u64 = 0x400_0000;
+
+/// The most bytes that the files may have together.
+pub(crate) const INPUT_LIMIT: u64 = 0x2000_0000;
 
 /// Why a run ends before anything is put.
 #[derive(Clone, Copy, Debug, PartialEq, Eq)]
@@ -48,6 +52,22 @@ impl From<NoMemory> for Stop {
     ghost from_gives = { λ _ stop. stop ≡ stops.Memory };
 
     fn from(_: NoMemory) -> Self {
+        Stop::Memory
+    }
+}
+
+impl From<AllocError> for Stop {
+    ghost from_gives = { λ _ stop. stop ≡ stops.Memory };
+
+    fn from(_: AllocError) -> Self {
+        Stop::Memory
+    }
+}
+
+impl<T: Drop> From<AllocFailed<T>> for Stop {
+    ghost from_gives = { λ _ stop. stop ≡ stops.Memory };
+
+    fn from(_: AllocFailed<T>) -> Self {
         Stop::Memory
     }
 }

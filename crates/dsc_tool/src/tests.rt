@@ -1,8 +1,10 @@
+mod dylibs;
+
 use crate::{Status, run};
 use dsc_base::{
-    Field, GetFault, MemSink, MemStore, NoMemory, OpenGate, PutFault, SoundStore, Store, put_u32,
-    read_u64, spell_fields,
+    GetFault, MemSink, MemStore, NoMemory, OpenGate, PutFault, SoundStore, Store, put_u32, read_u64,
 };
+use dylibs::{data_dylib, plain_dylib};
 use macho_image::{Form, read_image};
 use std::alloc::{AllocError, Global};
 use std::test::Fail;
@@ -40,9 +42,10 @@ fn words_of(alloc: Global, line: &str) -> Result<Vec<String>, AllocError> {
     Ok(words)
 }
 
-// A store whose only file is too large. It doesn't tell its files, so it counts a fault.
+// A store whose files are empty until one is too large. It doesn't tell its files, so it counts a fault.
 #[derive(Drop)]
 struct LargeStore {
+    empty_files: u64,
     get_faults: u64,
 }
 
@@ -55,7 +58,11 @@ impl Store for LargeStore {
 
     ghost put_faults = { λ _. 0 };
 
-    fn get(&mut self, _alloc: Global, _name: &str, _limit: u64) -> Result<Vec<u8>, GetFault> {
+    fn get(&mut self, alloc: Global, _name: &str, _limit: u64) -> Result<Vec<u8>, GetFault> {
+        if self.empty_files > 0 {
+            self.empty_files -= 1;
+            return Ok(Vec::new(alloc));
+        }
         self.get_faults = self.get_faults.saturating_add(1);
         Err(GetFault::TooLarge)
     }
@@ -65,21 +72,23 @@ impl Store for LargeStore {
     }
 }
 
-const USAGE: &str = "usage: dsc build OUT IN\n";
+const USAGE: &str = "usage: dsc build OUT IN...\n";
 
 #[test]
-fn what_stops_before_a_build_is_told(rt: HostRuntime) -> Result<(), Fail> {
+fn words_that_are_no_command_are_told(rt: HostRuntime) -> Result<(), Fail> {
     let alloc = rt.alloc();
     for line in [
         "",
         "build",
         "build c",
-        "build c A B",
         "built c A",
         "build -c A",
         "build c -",
         "build c -A",
+        "build c A -B",
         "build A A",
+        "build c A c",
+        "build c c A",
         "--help",
     ] {
         let mut store = SoundStore::new(alloc);
@@ -88,162 +97,73 @@ fn what_stops_before_a_build_is_told(rt: HostRuntime) -> Result<(), Fail> {
         assert_eq!(rt; answer.err.bytes(), USAGE.as_bytes(), "{line}");
         assert_eq!(rt; answer.out.bytes(), b"".as_slice(), "{line}");
     }
-    let answer = run_line(
-        &rt,
-        alloc,
-        "build c A",
-        &mut LargeStore { get_faults: 0 },
-        99,
-        99,
-    )?;
-    assert_eq!(rt; answer.status, Status::Refused);
-    assert_eq!(rt;
-        answer.err.bytes(),
-        b"dsc: refused 1 FileTooLarge image 0 at 0x4000000\n".as_slice()
-    );
-    let mut store = MemStore::new(alloc);
-    let answer = run_line(&rt, alloc, "build c A", &mut store, 99, 99)?;
+    // 4,096 inputs are a command, and one more is none.
+    let mut line = String::from_str(alloc, "build c")?;
+    for _ in 0..4096 {
+        line.push_str(" A")?;
+    }
+    let mut store = SoundStore::new(alloc);
+    let answer = run_line(&rt, alloc, line.as_str(), &mut store, 99, 99)?;
     assert_eq!(rt; answer.status, Status::ReadFault);
-    assert_eq!(rt;
-        answer.err.bytes(),
-        b"dsc: cannot read input 0\n".as_slice()
-    );
-    // A text that isn't taken whole is a fault of writing, and no other text follows.
-    let answer = run_line(&rt, alloc, "build c A", &mut store, 99, 11)?;
-    assert_eq!(rt; answer.status, Status::WriteFault);
-    assert_eq!(rt; answer.err.bytes(), b"dsc: cannot".as_slice());
-    store.insert("A", b"".to_vec(alloc)?)?;
-    store.fail_at(0, 0)?;
-    let answer = run_line(&rt, alloc, "build c A", &mut store, 99, 99)?;
-    assert_eq!(rt; answer.status, Status::ReadFault);
+    line.push_str(" A")?;
+    let answer = run_line(&rt, alloc, line.as_str(), &mut store, 99, 99)?;
+    assert_eq!(rt; answer.status, Status::BadWords);
     Ok(())
 }
 
-// LC_ID_DYLIB of `/a.dylib`, of 40 bytes.
-const INSTALL_NAME: [Field; 8] = [
-    Field::U32(0xD),
-    Field::U32(40),
-    Field::U32(24),
-    Field::U32(0),
-    Field::U32(0x1_0000),
-    Field::U32(0x1_0000),
-    Field::U64(0x6269_6C79_642E_612F),
-    Field::U64(0),
+// What a run over a store with the empty file A says, where the gets and puts with these numbers fail.
+const UNREAD: [(&str, Option<u32>, &str); 5] = [
+    ("build c B", None, "dsc: cannot read input 0\n"),
+    ("build c A", Some(0), "dsc: cannot read input 0\n"),
+    ("build c A B", None, "dsc: cannot read input 1\n"),
+    ("build c A A A", Some(1), "dsc: cannot read input 1\n"),
+    ("build c A A A", Some(2), "dsc: cannot read input 2\n"),
 ];
 
-// The header of an x86_64 dylib whose names are of two levels, with so many commands of so many bytes.
-fn header_fields(commands: u32, size: u32) -> [Field; 8] {
-    [
-        Field::U32(0xFEED_FACF),
-        Field::U32(0x0100_0007),
-        Field::U32(3),
-        Field::U32(6),
-        Field::U32(commands),
-        Field::U32(size),
-        Field::U32(0x85),
-        Field::U32(0),
-    ]
-}
-
-// LC_SEGMENT_64 of a segment that lies at the same place in memory as in the file.
-fn segment_fields(
-    name: &[u8; 16],
-    at: u64,
-    size: u64,
-    filesize: u64,
-    prot: u32,
-    sections: u32,
-) -> [Field; 11] {
-    [
-        Field::U32(0x19),
-        Field::U32(if sections == 0 { 72 } else { 152 }),
-        Field::Identifier(*name),
-        Field::U64(at),
-        Field::U64(size),
-        Field::U64(at),
-        Field::U64(filesize),
-        Field::U32(prot),
-        Field::U32(prot),
-        Field::U32(sections),
-        Field::U32(0),
-    ]
-}
-
-// A section that lies at the same place in memory as in the file.
-fn section_fields(name: &[u8; 16], segment: &[u8; 16], at: u32, size: u64) -> [Field; 7] {
-    [
-        Field::Identifier(*name),
-        Field::Identifier(*segment),
-        Field::U64(u64::from(at)),
-        Field::U64(size),
-        Field::U32(at),
-        Field::Zeros(24),
-        Field::U32(0),
-    ]
-}
-
-const TEXT: &[u8; 16] = b"__TEXT\0\0\0\0\0\0\0\0\0\0";
-
-const DATA: &[u8; 16] = b"__DATA\0\0\0\0\0\0\0\0\0\0";
-
-const LINKEDIT: &[u8; 16] = b"__LINKEDIT\0\0\0\0\0\0";
-
-// The fields one after another, and zeros up to the size.
-fn file_of(alloc: Global, parts: &[&[Field]], size: usize) -> Result<Vec<u8>, NoMemory> {
-    let mut bytes = Vec::with_capacity(alloc, size)?;
-    for part in parts {
-        bytes.extend_from_slice(&spell_fields(alloc, part)?)?;
+#[test]
+fn inputs_that_are_not_read_are_told(rt: HostRuntime) -> Result<(), Fail> {
+    let alloc = rt.alloc();
+    for (line, failing, want) in UNREAD {
+        let mut store = MemStore::new(alloc);
+        store.insert("A", Vec::new(alloc))?;
+        if let Some(call) = failing {
+            store.fail_at(call, 0)?;
+        }
+        let answer = run_line(&rt, alloc, line, &mut store, 99, 99)?;
+        assert_eq!(rt; answer.status, Status::ReadFault, "{line}");
+        assert_eq!(rt; answer.err.bytes(), want.as_bytes(), "{line}");
+        assert_eq!(rt; answer.out.bytes(), b"".as_slice(), "{line}");
+        assert_eq!(rt; store.file("c"), None, "{line}");
     }
-    bytes.resize(size, 0)?;
-    Ok(bytes)
+    // A text that isn't taken whole is a fault of writing, and no other text follows.
+    let mut store = MemStore::new(alloc);
+    let answer = run_line(&rt, alloc, "build c A", &mut store, 99, 11)?;
+    assert_eq!(rt; answer.status, Status::WriteFault);
+    assert_eq!(rt; answer.err.bytes(), b"dsc: cannot".as_slice());
+    Ok(())
 }
 
-// A dylib of two segments and an install name.
-fn plain_dylib(alloc: Global) -> Result<Vec<u8>, NoMemory> {
-    let parts: [&[Field]; 5] = [
-        &header_fields(3, 0x108),
-        &segment_fields(TEXT, 0, 0x1000, 0x1000, 5, 1),
-        &section_fields(b"__text\0\0\0\0\0\0\0\0\0\0", TEXT, 0x400, 0x800),
-        &segment_fields(LINKEDIT, 0x1000, 0x1000, 0x40, 1, 0),
-        &INSTALL_NAME,
-    ];
-    file_of(alloc, &parts, 0x1040)
-}
+// How many empty files stand before one that is too large, and what is said of it. Reading goes before
+// the rules that an empty file breaks.
+const TOO_LARGE: [(u64, &str); 3] = [
+    (0, "dsc: refused 1 FileTooLarge image 0 at 0x4000000\n"),
+    (1, "dsc: refused 1 FileTooLarge image 1 at 0x4000000\n"),
+    (2, "dsc: refused 1 FileTooLarge image 2 at 0x4000000\n"),
+];
 
-// A dylib with a data segment, one rebase in it, and no references.
-fn data_dylib(alloc: Global) -> Result<Vec<u8>, NoMemory> {
-    let streams = [
-        Field::U32(0x8000_0022),
-        Field::U32(48),
-        Field::U32(0x2000),
-        Field::U32(5),
-        Field::Zeros(32),
-        Field::U32(0x1E),
-        Field::U32(16),
-        Field::U32(0x2008),
-        Field::U32(2),
-    ];
-    let contents = [
-        Field::Zeros(0x1010 - 0x200),
-        Field::U64(0x1020),
-        Field::Zeros(0x2000 - 0x1018),
-        Field::U64(0x5110_2111),
-        Field::U16(0x7F),
-    ];
-    let parts: [&[Field]; 8] = [
-        &header_fields(6, 0x1E0),
-        &segment_fields(TEXT, 0, 0x1000, 0x1000, 5, 1),
-        &section_fields(b"__text\0\0\0\0\0\0\0\0\0\0", TEXT, 0x400, 0x800),
-        &segment_fields(DATA, 0x1000, 0x1000, 0x1000, 3, 1),
-        &section_fields(b"__data\0\0\0\0\0\0\0\0\0\0", DATA, 0x1000, 0x1000),
-        &segment_fields(LINKEDIT, 0x2000, 0x1000, 0x40, 1, 0),
-        &INSTALL_NAME,
-        &streams,
-    ];
-    let mut bytes = file_of(alloc, &parts, 0x200)?;
-    bytes.extend_from_slice(&spell_fields(alloc, &contents)?)?;
-    bytes.resize(0x2040, 0)?;
-    Ok(bytes)
+#[test]
+fn an_input_that_is_too_large_is_refused(rt: HostRuntime) -> Result<(), Fail> {
+    let alloc = rt.alloc();
+    for (empty_files, want) in TOO_LARGE {
+        let mut store = LargeStore {
+            empty_files,
+            get_faults: 0,
+        };
+        let answer = run_line(&rt, alloc, "build c A B C", &mut store, 99, 99)?;
+        assert_eq!(rt; answer.status, Status::Refused);
+        assert_eq!(rt; answer.err.bytes(), want.as_bytes());
+    }
+    Ok(())
 }
 
 // Numbers of 8 bytes in the cache of the plain dylib. The text mapping ends where the data mapping, of
@@ -340,8 +260,19 @@ const SECOND_NAME: [(usize, u32); 7] = [
 ];
 
 // Numbers set in the dylib with data, how much of it there is, and what is said of it.
-const REFUSED: [(&[(usize, u32)], usize, &str); 8] = [
-    (&[], 0x2040, "190 NotYet image 0 at 0xb8"),
+const REFUSED: [(&[(usize, u32)], usize, &str); 10] = [
+    (&[], 0x2040, "190 NotYet image 0 at 0x1c0"),
+    // a data segment of 512 MiB and more, and one that leaves no room for the linkedit
+    (
+        &[(0x1CC, 0), (0xD8, 0x2000_1000), (0x168, 0x2000_2000)],
+        0x2040,
+        "141 SpanTooLarge image 0 at 0x20003000",
+    ),
+    (
+        &[(0x1CC, 0), (0xD8, 0x1FFF_E000), (0x168, 0x1FFF_F000)],
+        0x2040,
+        "171 LinkeditTooLarge image 0 at 0x20000000",
+    ),
     (&[], 0x100, "6 CommandShape image 0 at 0x14"),
     (&[], 0x200, "10 SegmentShape image 0 at 0x20"),
     (&[], 0x2003, "10 SegmentShape image 0 at 0x150"),
@@ -374,5 +305,73 @@ fn other_files_are_refused(rt: HostRuntime) -> Result<(), Fail> {
         assert_eq!(rt; answer.err.bytes(), text.as_bytes(), "{want}");
         assert_eq!(rt; store.file("c"), None, "{want}");
     }
+    Ok(())
+}
+
+// A dylib with data and no rebase, whose install name begins with these four bytes.
+fn still_dylib(alloc: Global, name: u32) -> Result<Vec<u8>, NoMemory> {
+    let mut file = data_dylib(alloc)?;
+    put_all(&mut file, &[(0x1CC, 0), (0x1B0, name)]);
+    Ok(file)
+}
+
+// Numbers of 8 bytes in the cache of one such dylib: where slide information stands and how long it is,
+// the most that the cache may slide, the number and size of the commands of the cached header, where
+// text and data go, the word in the data, and the start of its page.
+const ONE: [(usize, u64); 9] = [
+    (0x38, 0x3000),
+    (0x40, 42),
+    (0xF0, 0xDFDF_B000),
+    (0x158, 0x7FFF_2000_1000),
+    (0x1010, 0x1D0_0000_0005),
+    (0x1038, 0x7FFF_2000_1000),
+    (0x10D0, 0x7FFF_2000_2000),
+    (0x2010, 0x1020),
+    (0x3028, 0x4000),
+];
+
+// The same of two: where text and data of each go.
+const TWO: [(usize, u64); 6] = [
+    (0x158, 0x7FFF_2000_1000),
+    (0x178, 0x7FFF_2000_2000),
+    (0x1038, 0x7FFF_2000_1000),
+    (0x10D0, 0x7FFF_2000_3000),
+    (0x2038, 0x7FFF_2000_2000),
+    (0x20D0, 0x7FFF_2000_4000),
+];
+
+#[test]
+fn several_dylibs_are_built(rt: HostRuntime) -> Result<(), Fail> {
+    let alloc = rt.alloc();
+    let mut store = MemStore::new(alloc);
+    store.insert("A", still_dylib(alloc, 0x642E_612F)?)?;
+    store.insert("B", still_dylib(alloc, 0x642E_622F)?)?;
+    let answer = run_line(&rt, alloc, "build c A", &mut store, 99, 99)?;
+    assert_eq!(rt; answer.status, Status::Done);
+    assert_eq!(rt;
+        answer.out.bytes(),
+        b"built 1 images, span 0x5000\n".as_slice()
+    );
+    let cache = store.get(alloc, "c", 0x5000)?;
+    assert_eq!(rt; cache.len(), 0x5000);
+    for (at, want) in ONE {
+        assert_eq!(rt; read_u64(&cache, at), Some(want), "at {at:x}");
+    }
+    let answer = run_line(&rt, alloc, "build c A B", &mut store, 99, 99)?;
+    assert_eq!(rt;
+        answer.out.bytes(),
+        b"built 2 images, span 0x7000\n".as_slice()
+    );
+    let cache = store.get(alloc, "c", 0x7000)?;
+    for (at, want) in TWO {
+        assert_eq!(rt; read_u64(&cache, at), Some(want), "at {at:x}");
+    }
+    let answer = run_line(&rt, alloc, "build d A A", &mut store, 99, 99)?;
+    assert_eq!(rt; answer.status, Status::Refused);
+    assert_eq!(rt;
+        answer.err.bytes(),
+        b"dsc: refused 121 DuplicateName image 1 at 0x0\n".as_slice()
+    );
+    assert_eq!(rt; store.file("d"), None);
     Ok(())
 }

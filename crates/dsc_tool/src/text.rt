@@ -10,7 +10,7 @@ use std::alloc::Global;
 pub(crate) fn usage_text() -> &'static str
     ensures { result.now ≡ usage_line }
 {
-    "usage: dsc build OUT IN\n"
+    "usage: dsc build OUT IN...\n"
 }
 
 /// A file or standard output was not written.

@@ -1,0 +1,130 @@
+// Files that tests build from.
+use dsc_base::{Field, NoMemory, spell_fields};
+use std::alloc::Global;
+
+// LC_ID_DYLIB of `/a.dylib`, of 40 bytes.
+const INSTALL_NAME: [Field; 8] = [
+    Field::U32(0xD),
+    Field::U32(40),
+    Field::U32(24),
+    Field::U32(0),
+    Field::U32(0x1_0000),
+    Field::U32(0x1_0000),
+    Field::U64(0x6269_6C79_642E_612F),
+    Field::U64(0),
+];
+
+// The header of an x86_64 dylib whose names are of two levels, with so many commands of so many bytes.
+fn header_fields(commands: u32, size: u32) -> [Field; 8] {
+    [
+        Field::U32(0xFEED_FACF),
+        Field::U32(0x0100_0007),
+        Field::U32(3),
+        Field::U32(6),
+        Field::U32(commands),
+        Field::U32(size),
+        Field::U32(0x85),
+        Field::U32(0),
+    ]
+}
+
+// LC_SEGMENT_64 of a segment that lies at the same place in memory as in the file.
+fn segment_fields(
+    name: &[u8; 16],
+    at: u64,
+    size: u64,
+    filesize: u64,
+    prot: u32,
+    sections: u32,
+) -> [Field; 11] {
+    [
+        Field::U32(0x19),
+        Field::U32(if sections == 0 { 72 } else { 152 }),
+        Field::Identifier(*name),
+        Field::U64(at),
+        Field::U64(size),
+        Field::U64(at),
+        Field::U64(filesize),
+        Field::U32(prot),
+        Field::U32(prot),
+        Field::U32(sections),
+        Field::U32(0),
+    ]
+}
+
+// A section that lies at the same place in memory as in the file.
+fn section_fields(name: &[u8; 16], segment: &[u8; 16], at: u32, size: u64) -> [Field; 7] {
+    [
+        Field::Identifier(*name),
+        Field::Identifier(*segment),
+        Field::U64(u64::from(at)),
+        Field::U64(size),
+        Field::U32(at),
+        Field::Zeros(24),
+        Field::U32(0),
+    ]
+}
+
+const TEXT: &[u8; 16] = b"__TEXT\0\0\0\0\0\0\0\0\0\0";
+
+const DATA: &[u8; 16] = b"__DATA\0\0\0\0\0\0\0\0\0\0";
+
+const LINKEDIT: &[u8; 16] = b"__LINKEDIT\0\0\0\0\0\0";
+
+// The fields one after another, and zeros up to the size.
+fn file_of(alloc: Global, parts: &[&[Field]], size: usize) -> Result<Vec<u8>, NoMemory> {
+    let mut bytes = Vec::with_capacity(alloc, size)?;
+    for part in parts {
+        bytes.extend_from_slice(&spell_fields(alloc, part)?)?;
+    }
+    bytes.resize(size, 0)?;
+    Ok(bytes)
+}
+
+// A dylib of two segments and an install name.
+pub(super) fn plain_dylib(alloc: Global) -> Result<Vec<u8>, NoMemory> {
+    let parts: [&[Field]; 5] = [
+        &header_fields(3, 0x108),
+        &segment_fields(TEXT, 0, 0x1000, 0x1000, 5, 1),
+        &section_fields(b"__text\0\0\0\0\0\0\0\0\0\0", TEXT, 0x400, 0x800),
+        &segment_fields(LINKEDIT, 0x1000, 0x1000, 0x40, 1, 0),
+        &INSTALL_NAME,
+    ];
+    file_of(alloc, &parts, 0x1040)
+}
+
+// A dylib with a data segment, one rebase in it, and no references.
+pub(super) fn data_dylib(alloc: Global) -> Result<Vec<u8>, NoMemory> {
+    let streams = [
+        Field::U32(0x8000_0022),
+        Field::U32(48),
+        Field::U32(0x2000),
+        Field::U32(5),
+        Field::Zeros(32),
+        Field::U32(0x1E),
+        Field::U32(16),
+        Field::U32(0x2008),
+        Field::U32(2),
+    ];
+    let contents = [
+        Field::Zeros(0x1010 - 0x200),
+        Field::U64(0x1020),
+        Field::Zeros(0x2000 - 0x1018),
+        Field::U64(0x5110_2111),
+        Field::U16(0x7F),
+    ];
+    let parts: [&[Field]; 8] = [
+        &header_fields(6, 0x1E0),
+        &segment_fields(TEXT, 0, 0x1000, 0x1000, 5, 1),
+        &section_fields(b"__text\0\0\0\0\0\0\0\0\0\0", TEXT, 0x400, 0x800),
+        &segment_fields(DATA, 0x1000, 0x1000, 0x1000, 3, 1),
+        &section_fields(b"__data\0\0\0\0\0\0\0\0\0\0", DATA, 0x1000, 0x1000),
+        &segment_fields(LINKEDIT, 0x2000, 0x1000, 0x40, 1, 0),
+        &INSTALL_NAME,
+        &streams,
+    ];
+    let mut bytes = file_of(alloc, &parts, 0x200)?;
+    bytes.extend_from_slice(&spell_fields(alloc, &contents)?)?;
+    bytes.resize(0x2040, 0)?;
+    Ok(bytes)
+}
