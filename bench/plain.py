@@ -23,18 +23,19 @@ def segment(name, at, size, filesize, prot, sections=b""):
     return struct.pack("<2I", 0x19, 8 + len(fields) + len(sections)) + fields + sections
 
 
-def dylib():
-    """A text segment of 60 MiB, of which all but the first page is one section, and an empty linkedit."""
-    section = struct.pack("<16s16s2Q8I", b"__text", b"__TEXT", 0x1000, TEXT - 0x1000, 0x1000, 0, 0, 0, 0, 0, 0, 0)
-    name = b"/plain.dylib".ljust(16, b"\0")
+def dylib(name=b"/plain.dylib", text=TEXT):
+    """A text segment of so many bytes, of which all but the first page is one section, and an empty linkedit."""
+    section = struct.pack("<16s16s2Q8I", b"__text", b"__TEXT", 0x1000, text - 0x1000, 0x1000, 0, 0, 0, 0, 0, 0, 0)
+    name = name.ljust(len(name) // 8 * 8 + 8, b"\0")
     commands = [
-        segment(b"__TEXT", 0, TEXT, TEXT, 5, section),
-        segment(b"__LINKEDIT", TEXT, 0x1000, 0x40, 1),
+        segment(b"__TEXT", 0, text, text, 5, section),
+        segment(b"__LINKEDIT", text, 0x1000, 0x40, 1),
         struct.pack("<6I", 0xD, 24 + len(name), 24, 0, 0x10000, 0x10000) + name,
     ]
     size = sum(map(len, commands))
     header = struct.pack("<8I", 0xFEEDFACF, 0x01000007, 3, 6, len(commands), size, 0x85, 0) + b"".join(commands)
-    return (header.ljust(0x1000, b"\0") + os.urandom(1 << 20) * 60)[:TEXT] + bytes(0x40)
+    noise = os.urandom(min(text, 1 << 20))
+    return (header.ljust(0x1000, b"\0") + noise * (text // len(noise)))[:text] + bytes(0x40)
 
 
 def timed(command, out):
@@ -48,6 +49,12 @@ def timed(command, out):
     if status != 0:
         sys.exit(f"{command} ended with {status}")
     return seconds, usage.ru_maxrss * (1 if sys.platform == "darwin" else 1024)
+
+
+def median(command, out):
+    """Median seconds of five runs, and the greatest peak memory in bytes."""
+    runs = [timed(command, out) for _ in range(RUNS)]
+    return statistics.median(run[0] for run in runs), max(run[1] for run in runs)
 
 
 def main():

@@ -1,0 +1,46 @@
+#!/usr/bin/env python3
+"""Builds caches of 1, 64 and 1,024 images of 60 KiB with the proved program and prints the time for one image of each
+set; then of 64 images of 4 MiB, against `cat` of the same files on the same disk in the same run, and peak memory over
+the input's size. Times are the median of five.
+
+usage: images.py [FOLDER]     FOLDER is where the files are written; a folder of its own beside this script if absent
+"""
+import os
+import sys
+import tempfile
+
+import plain
+
+
+def dylib(number, size):
+    """A text segment of so many bytes, of which all but the first page is one section, and an empty linkedit."""
+    return plain.dylib(b"/image%04d.dylib" % number, size)
+
+
+def make(folder, count, size):
+    paths = []
+    for number in range(count):
+        paths.append(os.path.join(folder, f"{count}-{number}"))
+        with open(paths[-1], "wb") as file:
+            file.write(dylib(number, size))
+    return paths
+
+
+def main():
+    if not os.path.exists(plain.PROGRAM):
+        sys.exit("no program yet: run ./dsc once")
+    folder = sys.argv[1] if len(sys.argv) > 1 else None
+    with tempfile.TemporaryDirectory(dir=folder or os.path.dirname(os.path.abspath(__file__))) as place:
+        cache = os.path.join(place, "cache")
+        for count in (1, 64, 1024):
+            paths = make(place, count, 60 << 10)
+            seconds, _ = plain.median([plain.PROGRAM, "build", cache, *paths], cache)
+            print(f"{count} images of 60 KiB: {1000 * seconds / count:.3f} ms an image")
+        paths = make(place, 64, 4 << 20)
+        whole = sum(map(os.path.getsize, paths))
+        copied, _ = plain.median(["sh", "-c", 'out=$1; shift; exec cat "$@" > "$out"', "sh", cache, *paths], cache)
+        built, memory = plain.median([plain.PROGRAM, "build", cache, *paths], cache)
+        print(f"64 images of 4 MiB: {built:.3f} s, cat {copied:.3f} s, ratio {built / copied:.2f}, memory {memory / whole:.2f} times the input")
+
+
+main()
