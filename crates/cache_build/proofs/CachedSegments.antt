@@ -16,6 +16,7 @@ use Rattle.macho_edit.specs.Conditions.{FitFields}
 use Rattle.macho_edit.specs.MovedImage.{moved_image}
 use Rattle.macho_edit.proofs.SoundLaws.{sound_rules, header_front}
 use Rattle.macho_edit.proofs.FrontLaws.{cached_fit, length-cached_front}
+use Rattle.macho_edit.proofs.Grounds.{standalone_flags}
 use Rattle.macho_edit.proofs.Reread.{reread}
 use Rattle.cache_header.specs.Reading.{image_address}
 use Rattle.cache_layout.specs.Layouts.{Laid, layout_of}
@@ -142,6 +143,6 @@ in_cache is ready k i lt at alone =
     ap (λ (n : ℕ). (n + (2 ^ 64 - region_start)) % 2 ^ 64) (address_is is ready k i lt at) ∙ omega (arith, own.2.address, own.2.end, own.2.span) in
     ap₂ (λ (b : List ℕ) (h : ℕ). image_at Cached b h) same place
     ∙ reread i (moves_in is k) (spots_in is) cache (move_at l k 0).file (own_sound is ready k i lt at)
-    (can.moves k i lt at) (fields_fit (linkedit_place l) (omega (arith, can.span)))
+    (can.moves k i lt at) (fields_fit (linkedit_place l) (omega (arith, can.span))) (standalone_flags i.header alone)
     (header_stands is ready k i lt at)
-    (placed_image is ready k i lt at alone cache (long_is is ready whole))
+    (placed_image is ready k i lt at cache (long_is is ready whole))

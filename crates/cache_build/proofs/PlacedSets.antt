@@ -5,8 +5,7 @@ use Rattle.std.proofs.lemmas.List.{get_or_default, get_or-map}
 use Rattle.dsc_base.specs.Region.{region_start, paged}
 use Rattle.macho_image.specs.Records.{Seg, Img}
 use Rattle.macho_image.specs.Rules.{is_linkedit_segment}
-use Rattle.macho_image.specs.Breaks.{form_of, IsSound}
-use Rattle.macho_image.specs.declared.form.Form.TheVariants.{Standalone}
+use Rattle.macho_image.specs.Breaks.{IsSound}
 use Rattle.macho_image.specs.declared.place.Moved.{Moved}
 use Rattle.macho_edit.specs.declared.segment.SegmentPlace.{SegmentPlace}
 use Rattle.macho_edit.specs.declared.spots.LinkSpots.{LinkSpots}
@@ -139,10 +138,10 @@ are_linked place = record {
 first_file : (ms : List Moved) → 0 < length ms → get_or (map (λ (m : Moved). m.file) ms) 0 (get_or ms 0 no_move).file ≡ (get_or ms 0 no_move).file
 first_file ms some = get_or-map (λ (m : Moved). m.file) ms 0 no_move (get_or ms 0 no_move).file some
 
-pub placed_image : (is : List Img) → IsReady is → (k : ℕ) (i : Img) → k < length is → i ≡ get_or is k i → form_of i.header ≡ Standalone → (cache : List ℕ) → length cache ≡ span_of (layout_of is)
+pub placed_image : (is : List Img) → IsReady is → (k : ℕ) (i : Img) → k < length is → i ≡ get_or is k i → (cache : List ℕ) → length cache ≡ span_of (layout_of is)
     → IsPlaced i (slice_index_or (layout_of is).moves k []) (spots_at (linkedit_place (layout_of is))) cache (move_at (layout_of is) k 0).file
 unfolding spots_at linkedit_of
-placed_image is ready k i lt at form cache long =
+placed_image is ready k i lt at cache long =
     let l : Laid = layout_of is in
     let moves : List Moved = slice_index_or l.moves k [] in
     let spots : LinkSpots = spots_at (linkedit_place l) in
@@ -152,7 +151,6 @@ placed_image is ready k i lt at form cache long =
     let owned : (g : ℕ) (s : Seg) → g + 1 < length i.segments → is_linkedit_segment (get_or i.segments g s) ≡ false =
     λ g s less. (sound_linkedit i sound g (get_or i.segments g s) (omega (arith, less)) (get_or_default i.segments g s (get_or i.segments g s) (omega (arith, less)))).0 less in
     record {
-      standalone = form;
       first = first_file moves (omega (arith, some, same));
       seated = seated_from (length cache) spots moves i.segments same
           (λ g m s below other. seat_own l (length cache) (get_or i.segments g s).vmsize (get_or moves g m) long ready.small (held_own is ready k g i m s lt at below other))
@@ -161,5 +159,4 @@ placed_image is ready k i lt at form cache long =
           (λ a b m s less below. apart_own is ready k i a b m s lt at less (omega (arith, below)) (owned a s (omega (arith, less, below))) (owned b s below))
           (λ g m s below. apart_linkedit l (get_or i.segments g s).vmsize (get_or moves g m) (held_own is ready k g i m s lt at (omega (arith, below)) (owned g s below)));
       linked = are_linked (linkedit_place l);
-      no_rebases = refl;
     }

@@ -1,12 +1,15 @@
 mod dylibs;
+mod refusals;
 
 use crate::{Status, run};
 use dsc_base::{
     GetFault, MemSink, MemStore, NoMemory, OpenGate, PutFault, SoundStore, Store, put_u32, read_u64,
 };
-use dylibs::{data_dylib, plain_dylib};
+use dylibs::{data_dylib, large_dylib, plain_dylib};
 use macho_image::{Form, read_image};
+use refusals::{NOT_YET, REFUSED};
 use std::alloc::{AllocError, Global};
+use std::process::Abort;
 use std::test::Fail;
 use std::thread::Threads;
 
@@ -248,48 +251,6 @@ fn put_all(file: &mut [u8], numbers: &[(usize, u32)]) {
     }
 }
 
-// A second install name behind the other commands.
-const SECOND_NAME: [(usize, u32); 7] = [
-    (0x10, 7),
-    (0x14, 0x208),
-    (0x200, 0xD),
-    (0x204, 40),
-    (0x208, 24),
-    (0x218, 0x642E_612F),
-    (0x21C, 0x6269_6C79),
-];
-
-// Numbers set in the dylib with data, how much of it there is, and what is said of it.
-const REFUSED: [(&[(usize, u32)], usize, &str); 10] = [
-    (&[], 0x2040, "190 NotYet image 0 at 0x1c0"),
-    // a data segment of 512 MiB and more, and one that leaves no room for the linkedit
-    (
-        &[(0x1CC, 0), (0xD8, 0x2000_1000), (0x168, 0x2000_2000)],
-        0x2040,
-        "141 SpanTooLarge image 0 at 0x20003000",
-    ),
-    (
-        &[(0x1CC, 0), (0xD8, 0x1FFF_E000), (0x168, 0x1FFF_F000)],
-        0x2040,
-        "171 LinkeditTooLarge image 0 at 0x20000000",
-    ),
-    (&[], 0x100, "6 CommandShape image 0 at 0x14"),
-    (&[], 0x200, "10 SegmentShape image 0 at 0x20"),
-    (&[], 0x2003, "10 SegmentShape image 0 at 0x150"),
-    (&[], 0, "3 NotMachO image 0 at 0x0"),
-    (
-        &[(0x1CC, 0x41)],
-        0x2040,
-        "17 LinkeditRange image 0 at 0x1c0",
-    ),
-    (
-        &[(0x1F0, 0x8000_0034)],
-        0x2040,
-        "7 UnknownCommand image 0 at 0x1f0",
-    ),
-    (&SECOND_NAME, 0x2040, "8 CommandTwice image 0 at 0x200"),
-];
-
 #[test]
 fn other_files_are_refused(rt: HostRuntime) -> Result<(), Fail> {
     let alloc = rt.alloc();
@@ -297,14 +258,38 @@ fn other_files_are_refused(rt: HostRuntime) -> Result<(), Fail> {
         let mut file = data_dylib(alloc)?;
         put_all(&mut file, numbers);
         file.truncate(length);
-        let mut store = SoundStore::new(alloc);
-        store.insert("A", file)?;
-        let answer = run_line(&rt, alloc, "build c A", &mut store, 99, 99)?;
-        let text = format!(in alloc; "dsc: refused {want}\n")?;
-        assert_eq!(rt; answer.status, Status::Refused, "{want}");
-        assert_eq!(rt; answer.err.bytes(), text.as_bytes(), "{want}");
-        assert_eq!(rt; store.file("c"), None, "{want}");
+        is_refused(&rt, alloc, file, want)?;
     }
+    for (numbers, want) in NOT_YET {
+        let mut file = still_dylib(alloc, 0x642E_612F)?;
+        put_all(&mut file, numbers);
+        is_refused(&rt, alloc, file, want)?;
+    }
+    let large = large_dylib(alloc, 0x2000_1000)?;
+    is_refused(&rt, alloc, large, "141 SpanTooLarge image 0 at 0x20003000")?;
+    let large = large_dylib(alloc, 0x1FFF_E000)?;
+    is_refused(
+        &rt,
+        alloc,
+        large,
+        "171 LinkeditTooLarge image 0 at 0x20000000",
+    )
+}
+
+// A file alone is refused with this text, and nothing is put.
+fn is_refused<R: Threads + Abort>(
+    rt: &R,
+    alloc: Global,
+    file: Vec<u8>,
+    want: &str,
+) -> Result<(), Fail> {
+    let mut store = SoundStore::new(alloc);
+    store.insert("A", file)?;
+    let answer = run_line(rt, alloc, "build c A", &mut store, 99, 99)?;
+    let text = format!(in alloc; "dsc: refused {want}\n")?;
+    assert_eq!(rt; answer.status, Status::Refused, "{want}");
+    assert_eq!(rt; answer.err.bytes(), text.as_bytes(), "{want}");
+    assert_eq!(rt; store.file("c"), None, "{want}");
     Ok(())
 }
 

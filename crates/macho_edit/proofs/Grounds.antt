@@ -1,7 +1,7 @@
 -- What is known of the commands and segments of a sound image whose header is placed.
 use Rattle.std.proofs.Common.{◌≡◌, ◌≤◌, ◌<◌, inl, inr, ℕ, zero, suc, ◌+◌, ◌-◌, ◌*◌, ◌/◌, ◌^◌, Bool, true, false, not, ◌&&◌, ◌||◌, nat_eq, nat_lt, if◌then◌else◌, None, List, [], ◌∷◌, drop, map, length, get_or, refl, sym, ap, ap₂, ◌∙◌, subst, arith}
 use Rattle.std.specs.List.{AllByRecursion}
-use Rattle.std.proofs.lemmas.Bool.{cond-false, eqb-true}
+use Rattle.std.proofs.lemmas.Bool.{cond-true, cond-false, eqb-true}
 use Rattle.std.proofs.lemmas.Bool.Decides.{nat_tests}
 use Rattle.std.proofs.lemmas.List.{length-map}
 use Rattle.dsc_base.specs.Numbers.{number_at}
@@ -201,7 +201,7 @@ first_text size h spots (m ∷ ms) (s ∷ ss) len many none shaped low first =
     (ap (λ (p : SegmentPlace). p.file) (place_other spots m s.name s.vmsize other) ∙ first, omega arith)
 
 -- the flags of a file of its own
-pub flags_clear : (header : List ℕ) → form_of header ≡ Standalone → says_cached (number_at 4 header 24) ≡ false
+flags_clear : (header : List ℕ) → form_of header ≡ Standalone → says_cached (number_at 4 header 24) ≡ false
 flags_clear header told = clear (says_cached (number_at 4 header 24)) told
   where
     clear : (b : Bool) → if◌then◌else◌ {A = Form} b Cached Standalone ≡ Standalone → b ≡ false
@@ -210,6 +210,16 @@ flags_clear header told = clear (says_cached (number_at 4 header 24)) told
 
 pub flags_set : (flags : ℕ) → says_cached flags ≡ false → (in_cache flags ≡ flags + 0x8000_0000) × (flags < 0x8000_0000)
 flags_set flags clear = (cond-false (says_cached flags) flags (flags + 0x8000_0000) clear, grind (arith, nat_tests))
+
+pub standalone_flags : (header : List ℕ) → form_of header ≡ Standalone → number_at 4 header 24 < 2 ^ 32
+standalone_flags header told = let set = flags_set (number_at 4 header 24) (flags_clear header told) in omega (arith, set.1)
+
+-- the flag of the cache is one of 32 bits
+pub cache_flags_fit : (flags : ℕ) → flags < 2 ^ 32 → in_cache flags < 2 ^ 32
+cache_flags_fit flags fits = elim (bool_cases (says_cached flags)) [
+  | inl clear ↦ let set = flags_set flags clear in omega (arith, set.0, set.1)
+  | inr set ↦ omega (arith, fits, cond-true (says_cached flags) flags (flags + 0x8000_0000) set)
+]
 
 -- behind the first segment, the last one is `__LINKEDIT`, and no other is
 abbrev LinkeditLast : List SegmentLoad → ℕ → SegmentLoad → Type 0

@@ -89,7 +89,7 @@ info_inside spots d are is =
     let low : ℕ = spots.linkedit.file in
     let high : ℕ = spots.linkedit.file + spots.filesize in
     five (leaves low high d 1 8 12) (leaves low high d 1 16 20) (leaves low high d 1 24 28) (leaves low high d 1 32 36) (leaves low high d 1 40 44)
-    (empty_leaves low high d 8 12 (is.rebase_size ∙ are.no_rebases))
+    (empty_leaves low high d 8 12 is.rebase_size)
     (span_leaves spots spots.bind d 1 16 20 spots.bind.len are.linked.bind is.bind is.bind_size (one_times spots.bind.len))
     (empty_leaves low high d 24 28 is.weak_size)
     (span_leaves spots spots.lazy d 1 32 36 spots.lazy.len are.linked.lazy is.lazy is.lazy_size (one_times spots.lazy.len))

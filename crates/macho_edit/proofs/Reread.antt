@@ -1,8 +1,8 @@
 -- Where a header that was moved stands in a file, the file has the moved image there, which breaks no rule.
-use Rattle.std.proofs.Common.{◌≡◌, ◌≤◌, ◌<◌, ℕ, ◌+◌, ◌-◌, ◌/◌, ◌%◌, ◌^◌, Bool, true, false, not, ◌||◌, nat_eq, nat_lt, if◌then◌else◌, Option, Some, None, List, [], ◌∷◌, ◌++◌, take, drop, map, length, get_or, refl, sym, ap, ap₂, ◌∙◌, subst, arith, append_assoc}
+use Rattle.std.proofs.Common.{◌≡◌, ◌≤◌, ◌<◌, inl, inr, ℕ, ◌+◌, ◌-◌, ◌/◌, ◌%◌, ◌^◌, Bool, true, false, not, ◌||◌, nat_eq, nat_lt, if◌then◌else◌, Option, Some, None, List, [], ◌∷◌, ◌++◌, take, drop, map, length, get_or, refl, sym, ap, ap₂, ◌∙◌, subst, arith, append_assoc}
 use Rattle.std.specs.Prelude.{filter, replicate, is_some}
 use Rattle.std.specs.List.{AllByRecursion, filter_map}
-use Rattle.std.proofs.lemmas.Bool.{cond-false, eq-eqb, eqb-true}
+use Rattle.std.proofs.lemmas.Bool.{cond-true, cond-false, eq-eqb, eqb-true}
 use Rattle.std.proofs.lemmas.List.{take-append-drop, take_at}
 use Rattle.std.proofs.lemmas.List.Elements.{recursion_from_All}
 use Rattle.dsc_base.specs.Numbers.{number_at}
@@ -25,7 +25,7 @@ use Rattle.macho_edit.specs.Conditions.{CanMove, FitFields}
 use Rattle.macho_edit.specs.Cached.{is_kept, in_cache, cached_commands, kept_header, cached_bytes}
 use Rattle.macho_edit.specs.Placed.{places_of, IsSeated, AreApart, IsPlaced}
 use Rattle.macho_edit.specs.MovedImage.{seated_all, followed, spotted_streams, spotted_groups, moved_image, Rereads}
-use Rattle.macho_edit.proofs.BoolLaws.{when_false, not_false, or_neither, and_parts, and_true, le_true, not_lower, lower_not}
+use Rattle.macho_edit.proofs.BoolLaws.{bool_cases, when_false, not_false, or_neither, and_parts, and_true, le_true, not_lower, lower_not}
 use Rattle.macho_edit.proofs.CopyLaws.{command_shape}
 use Rattle.macho_edit.proofs.FrontLaws.{cached_from}
 use Rattle.macho_edit.proofs.SoundLaws.{KeepsRules, sound_rules, header_front}
@@ -38,7 +38,7 @@ use Rattle.macho_edit.proofs.KeptStreams.{streams_are, groups_are, has_info, dep
 use Rattle.macho_edit.proofs.KeptSections.{IsShaped}
 use Rattle.macho_edit.proofs.KeptSegments.{AreSeated, AllApart, StartsAt, shapes_kept, places_kept, prot_kept, section_shapes_kept, interposing_kept, relocated_kept, outside_kept}
 use Rattle.macho_edit.proofs.KeptImage.{segments_seated, same_starts, sections_followed, addresses_of}
-use Rattle.macho_edit.proofs.Grounds.{places_from, loads_length, all_fail, all_shaped, commands_good, all_room, all_bare, low_loads, are_seated, all_fit, all_apart, linkedit_at, first_text, flags_clear, flags_set}
+use Rattle.macho_edit.proofs.Grounds.{places_from, loads_length, all_fail, all_shaped, commands_good, all_room, all_bare, low_loads, are_seated, all_fit, all_apart, linkedit_at, first_text, flags_set, cache_flags_fit}
 
 -- what is known of an image whose header is placed
 pub record IsReady (image : Img) (moves : List Moved) (spots : LinkSpots) (b : List ℕ) (h : ℕ) : Type 0 where
@@ -52,10 +52,9 @@ pub record IsReady (image : Img) (moves : List Moved) (spots : LinkSpots) (b : L
   pub starts : StartsAt h (load_places spots moves (segment_loads (loads_of image.header)))
   pub kept : IsKeptHeader spots moves image.header
   pub whole : length image.header ≡ header_size image.header
-  pub clear : says_cached (number_at 4 image.header 24) ≡ false
 
-pub ready : (image : Img) (moves : List Moved) (spots : LinkSpots) (b : List ℕ) (h : ℕ) → IsSound image → CanMove image moves spots → FitFields spots.linkedit.file spots.groups → IsPlaced image moves spots b h → IsReady image moves spots b h
-ready image moves spots b h sound can fields placed =
+pub ready : (image : Img) (moves : List Moved) (spots : LinkSpots) (b : List ℕ) (h : ℕ) → IsSound image → CanMove image moves spots → FitFields spots.linkedit.file spots.groups → number_at 4 image.header 24 < 2 ^ 32 → IsPlaced image moves spots b h → IsReady image moves spots b h
+ready image moves spots b h sound can fields narrow placed =
     let header : List ℕ = image.header in
     let ss : List SegmentLoad = segment_loads (loads_of header) in
     let ps : List SegmentPlace = load_places spots moves ss in
@@ -74,11 +73,10 @@ ready image moves spots b h sound can fields placed =
     let followed : AreFollowed spots moves ss 32 (filter is_kept (commands_of header)) =
     all_followed spots moves 32 32 (commands_of header) few (commands_good 32 (commands_of header) whole.whole shaped) (all_fit (length b) spots moves ss fields.offset low seated) in
     let first = first_text (header_size header) h spots moves ss few two rest.1 shaped low placed.first in
-    let clear : says_cached (number_at 4 header 24) ≡ false = flags_clear header placed.standalone in
-    let flags = flags_set (number_at 4 header 24) clear in
+    let flags : in_cache (number_at 4 header 24) < 2 ^ 32 = cache_flags_fit (number_at 4 header 24) narrow in
     let short : length header < 2 ^ 32 = omega (arith, sound.whole, first.1) in
     record {
-      are = record { low = can.spans; linked = placed.linked; six = fields.six; narrow = fields.narrow; no_rebases = placed.no_rebases; whole_symbols = can.whole_symbols; whole_indirect = can.whole_indirect };
+      are = record { low = can.spans; linked = placed.linked; six = fields.six; narrow = fields.narrow; whole_symbols = can.whole_symbols; whole_indirect = can.whole_indirect };
       rules = rules;
       places = places;
       commands = followed.commands;
@@ -86,9 +84,8 @@ ready image moves spots b h sound can fields placed =
       seats = are_seated (length b) spots moves ss seated shaped (all_room (loads_of header)) (all_bare (header_size header) ss rest.1) low;
       apart = all_apart ps (subst (λ (qs : List SegmentPlace). (i j : ℕ) (d : SegmentPlace) → i < j → j < length qs → AreApart (get_or qs i d) (get_or qs j d)) places placed.apart);
       starts = first.0;
-      kept = kept_header_is spots moves header fields.six front rules.shape short (omega (arith, flags.0, flags.1)) (all_moved_whole spots (filter is_kept (commands_of header)) (cached_commands spots moves header) fields.six followed.commands);
+      kept = kept_header_is spots moves header fields.six front rules.shape short flags (all_moved_whole spots (filter is_kept (commands_of header)) (cached_commands spots moves header) fields.six followed.commands);
       whole = sound.whole;
-      clear = clear;
     }
 
 -- rules 3 and 5 of the header that the cache has
@@ -104,14 +101,20 @@ magic_kept image moves spots b h is =
     when_some true e = absurd (cc)
     when_some false e = refl
 
-cached_flags : (flags : ℕ) → says_cached flags ≡ false → flags_fit Standalone flags ≡ true → flags_fit Cached (in_cache flags) ≡ true
-cached_flags flags clear fit =
-    let parts = and_parts (nat_eq (flags / 0x80 % 2) 1) (not (says_cached flags)) fit in
-    let bit : flags / 0x80 % 2 ≡ 1 = eqb-true (flags / 0x80 % 2) 1 parts.0 in
-    let set = flags_set flags clear in
-    ap (flags_fit Cached) set.0
-    ∙ and_true (nat_eq ((flags + 0x8000_0000) / 0x80 % 2) 1) (says_cached (flags + 0x8000_0000))
-    (eq-eqb ((flags + 0x8000_0000) / 0x80 % 2) 1 (omega arith)) (le_true 0x8000_0000 (flags + 0x8000_0000) (omega arith))
+cached_flags : (flags : ℕ) → flags_fit (if◌then◌else◌ {A = Form} (says_cached flags) Cached Standalone) flags ≡ true → flags_fit Cached (in_cache flags) ≡ true
+cached_flags flags fit = elim (bool_cases (says_cached flags)) [
+  | inl clear ↦
+      let own : flags_fit Standalone flags ≡ true = subst (λ (f : Form). flags_fit f flags ≡ true) (cond-false (says_cached flags) Cached Standalone clear) fit in
+      let parts = and_parts (nat_eq (flags / 0x80 % 2) 1) (not (says_cached flags)) own in
+      let bit : flags / 0x80 % 2 ≡ 1 = eqb-true (flags / 0x80 % 2) 1 parts.0 in
+      let set = flags_set flags clear in
+      ap (flags_fit Cached) set.0
+      ∙ and_true (nat_eq ((flags + 0x8000_0000) / 0x80 % 2) 1) (says_cached (flags + 0x8000_0000))
+      (eq-eqb ((flags + 0x8000_0000) / 0x80 % 2) 1 (omega arith)) (le_true 0x8000_0000 (flags + 0x8000_0000) (omega arith))
+  | inr set ↦
+      ap (flags_fit Cached) (cond-true (says_cached flags) flags (flags + 0x8000_0000) set)
+      ∙ subst (λ (f : Form). flags_fit f flags ≡ true) (cond-true (says_cached flags) Cached Standalone set) fit
+]
 
 kind_parts : (form : Form) (cpu kind flags : ℕ) → if◌then◌else◌ {A = Option ℕ} (not (nat_eq cpu 0x0100_0007)) (Some 4) (if not (nat_eq kind 6) then Some 12 else (if not (flags_fit form flags) then Some 24 else None)) ≡ None
     → (not (nat_eq cpu 0x0100_0007) ≡ false) × (not (nat_eq kind 6) ≡ false) × (flags_fit form flags ≡ true)
@@ -130,12 +133,11 @@ kind_kept : (image : Img) (moves : List Moved) (spots : LinkSpots) (b : List ℕ
 kind_kept image moves spots b h is =
     let header : List ℕ = image.header in
     let k : List ℕ = kept_header spots moves header in
-    let told : form_of header ≡ Standalone = cond-false (says_cached (number_at 4 header 24)) Cached Standalone is.clear in
-    let old = kind_parts Standalone (number_at 4 header 4) (number_at 4 header 12) (number_at 4 header 24) (subst (λ (f : Form). breaks_wrong_kind f header ≡ None) told is.rules.kind) in
+    let old = kind_parts (form_of header) (number_at 4 header 4) (number_at 4 header 12) (number_at 4 header 24) is.rules.kind in
     kind_none Cached (number_at 4 k 4) (number_at 4 k 12) (number_at 4 k 24)
     (ap (λ (n : ℕ). not (nat_eq n 0x0100_0007)) (is.kept.low 4 4 (omega arith)) ∙ old.0)
     (ap (λ (n : ℕ). not (nat_eq n 6)) (is.kept.low 4 12 (omega arith)) ∙ old.1)
-    (ap (flags_fit Cached) is.kept.flags ∙ cached_flags (number_at 4 header 24) is.clear old.2)
+    (ap (flags_fit Cached) is.kept.flags ∙ cached_flags (number_at 4 header 24) old.2)
 
 -- the header is found where it stands
 header_here : (image : Img) (moves : List Moved) (spots : LinkSpots) (b : List ℕ) (h : ℕ) → IsReady image moves spots b h
@@ -239,26 +241,26 @@ spelled_image image moves spots b h sound is =
     none j = omega arith
 
 -- a header that was moved is read back as the moved image
-pub reread : (image : Img) (moves : List Moved) (spots : LinkSpots) (b : List ℕ) (h : ℕ) → IsSound image → CanMove image moves spots → FitFields spots.linkedit.file spots.groups
+pub reread : (image : Img) (moves : List Moved) (spots : LinkSpots) (b : List ℕ) (h : ℕ) → IsSound image → CanMove image moves spots → FitFields spots.linkedit.file spots.groups → number_at 4 image.header 24 < 2 ^ 32
     → take (length (cached_bytes image moves spots)) (drop h b) ≡ cached_bytes image moves spots → IsPlaced image moves spots b h → image_at Cached b h ≡ Some (moved_image image moves spots b)
-reread image moves spots b h sound can fields stands placed =
-    let is : IsReady image moves spots b h = ready image moves spots b h sound can fields placed in
+reread image moves spots b h sound can fields narrow stands placed =
+    let is : IsReady image moves spots b h = ready image moves spots b h sound can fields narrow placed in
     let here : header_in b h ≡ kept_header spots moves image.header = header_here image moves spots b h is stands in
     ap (λ (o : Option Site). image_unless o (image_of b h)) (cached_unbroken image moves spots b h is here)
     ∙ ap Some (ap (image_from b) here ∙ spelled_image image moves spots b h sound is)
 
 -- the moved image is sound
-pub moved_sound : (image : Img) (moves : List Moved) (spots : LinkSpots) (b : List ℕ) (h : ℕ) → IsSound image → CanMove image moves spots → FitFields spots.linkedit.file spots.groups
+pub moved_sound : (image : Img) (moves : List Moved) (spots : LinkSpots) (b : List ℕ) (h : ℕ) → IsSound image → CanMove image moves spots → FitFields spots.linkedit.file spots.groups → number_at 4 image.header 24 < 2 ^ 32
     → take (length (cached_bytes image moves spots)) (drop h b) ≡ cached_bytes image moves spots → IsPlaced image moves spots b h → IsSound (moved_image image moves spots b)
-moved_sound image moves spots b h sound can fields stands placed =
-    let is : IsReady image moves spots b h = ready image moves spots b h sound can fields placed in
+moved_sound image moves spots b h sound can fields narrow stands placed =
+    let is : IsReady image moves spots b h = ready image moves spots b h sound can fields narrow placed in
     let here : header_in b h ≡ kept_header spots moves image.header = header_here image moves spots b h is stands in
     subst IsSound (ap (image_from b) here ∙ spelled_image image moves spots b h sound is) (image_sound Cached b h (cached_unbroken image moves spots b h is here))
 
 -- the same of an image seen from inside
 pub reread_from : (image inside : Img) (moves left : List Moved) (spots : LinkSpots) (out : List ℕ) → inside ≡ image → left ≡ moves
-    → out ≡ padded (length inside.header) (kept_header spots left inside.header) → IsSound inside → CanMove image moves spots → FitFields spots.linkedit.file spots.groups → Rereads image moves spots out
-reread_from image inside moves left spots out image_is moves_is out_is sound can fields =
+    → out ≡ padded (length inside.header) (kept_header spots left inside.header) → IsSound inside → CanMove image moves spots → FitFields spots.linkedit.file spots.groups → number_at 4 inside.header 24 < 2 ^ 32 → Rereads image moves spots out
+reread_from image inside moves left spots out image_is moves_is out_is sound can fields narrow =
     let bytes : out ≡ cached_bytes image moves spots = cached_from image inside moves left spots out image_is moves_is out_is in
     λ b h stands placed.
-    reread image moves spots b h (subst IsSound image_is sound) can fields (subst (λ (l : List ℕ). take (length l) (drop h b) ≡ l) bytes stands) placed
+    reread image moves spots b h (subst IsSound image_is sound) can fields (subst (λ (i : Img). number_at 4 i.header 24 < 2 ^ 32) image_is narrow) (subst (λ (l : List ℕ). take (length l) (drop h b) ≡ l) bytes stands) placed

@@ -1,10 +1,8 @@
 -- When the header that is written stands in a file, with all that it names in place.
 use Rattle.std.specs.Prelude.{◌≡◌, ◌≤◌, ◌<◌, ℕ, ◌+◌, ◌%◌, min, max, List, [], ◌∷◌, length, get_or, map, All}
 use Rattle.dsc_base.specs.declared.fault.Span.{Span}
-use Rattle.macho_image.specs.declared.form.Form.TheVariants.{Standalone}
 use Rattle.macho_image.specs.declared.place.Moved.{Moved}
 use Rattle.macho_image.specs.Records.{Seg, Img}
-use Rattle.macho_image.specs.Breaks.{form_of}
 use Rattle.macho_edit.specs.declared.segment.SegmentPlace.{SegmentPlace}
 use Rattle.macho_edit.specs.declared.spots.LinkSpots.{LinkSpots}
 use Rattle.macho_edit.specs.Segments.{place_for}
@@ -40,12 +38,10 @@ pub record AreLinked (spots : LinkSpots) : Type 0 where
   pub indirect : IsLinked spots spots.indirect
   pub strings : IsLinked spots spots.strings
 
--- the image of a file of its own, whose header goes to place h of the file b: each segment is seated there, the first one at the header, no two share an address, and its streams and tables lie in the linkedit
+-- an image whose header goes to place h of the file b: each segment is seated there, the first one at the header, no two share an address, and its streams and tables lie in the linkedit
 pub record IsPlaced (image : Img) (moves : List Moved) (spots : LinkSpots) (b : List ℕ) (h : ℕ) : Type 0 where
-  pub standalone : form_of image.header ≡ Standalone
   pub first : get_or (map (λ m. m.file) moves) 0 h ≡ h
   pub seated : All (IsSeated (length b)) (places_of spots moves image.segments)
   pub apart : (i j : ℕ) (p : SegmentPlace) → i < j → j < length (places_of spots moves image.segments)
       → AreApart (get_or (places_of spots moves image.segments) i p) (get_or (places_of spots moves image.segments) j p)
   pub linked : AreLinked spots
-  pub no_rebases : spots.rebase.len ≡ 0

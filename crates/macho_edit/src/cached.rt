@@ -1,6 +1,7 @@
 // The header of an image as the shared cache has it. Names are those of mach-o/loader.h.
-ghost use Rattle.std.specs.Prelude.{◌≡◌, ◌≤◌, ◌+◌, ◌-◌, ◌++◌, None, true, length, OnOk, IfOk};
+ghost use Rattle.std.specs.Prelude.{◌≡◌, ◌≤◌, ◌<◌, ◌+◌, ◌-◌, ◌^◌, ◌++◌, None, true, length, OnOk, IfOk};
 ghost use Rattle.std.specs.List.{concat};
+ghost use Rattle.dsc_base.specs.Numbers.{number_at};
 ghost use Rattle.dsc_base.specs.Region.{padded};
 ghost use Rattle.macho_image.specs.Macho.{header_size, number_of, is_segment};
 ghost use Rattle.macho_image.specs.Rules.{breaks_command_shape, least_size};
@@ -126,17 +127,18 @@ fn write_header(
     Ok(out)
 }
 
-/// Does nothing; its contract tells what the types of two fields of the spots say.
-fn fit_fields(file: u64, groups: [u32; 6])
-    ensures { FitFields file groups }
+/// Does nothing; its contract tells what the types of two fields of the spots say, and of the flags of a header.
+fn fit_fields(file: u64, groups: [u32; 6], header: &[u8])
+    ensures fields { FitFields file groups }
+    ensures flags { number_at 4 header.now 24 < 2 ^ 32 }
 {
-    let _ = (file, groups);
+    let _ = (file, groups, header.len());
 }
 
 /// The header with its commands that an image has in the cache, as many bytes as `image.header`: its flags
 /// say so, split information and code signatures are left out, each segment stands at its move with its
-/// sections along, and `__LINKEDIT`, streams and tables stand at their spots. Read from a cache that has all
-/// of them there, it gives the image with its new places.
+/// sections along, and `__LINKEDIT`, streams and tables stand at their spots, but for rebases and weak binds,
+/// which it doesn't name. Read from a cache that has all of them there, it gives the image with its new places.
 pub fn cached_header(
     alloc: Global,
     image: &Image<'_>,
@@ -148,7 +150,7 @@ pub fn cached_header(
     ensures size { IfOk result (λ v. length v.items ≡ length image.now.header) }
     ensures rereads { IfOk result (λ v. Rereads image.now moves.now spots.now v.items) }
 {
-    fit_fields(spots.linkedit.file, spots.groups);
+    fit_fields(spots.linkedit.file, spots.groups, image.header);
     let header = write_header(alloc, image.header, &moves.segments, spots)?;
     Ok(header)
 }

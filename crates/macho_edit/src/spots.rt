@@ -4,7 +4,8 @@ use macho_image::Moved;
 
 /// The place of `__LINKEDIT` with its sizes in memory and in the file, in bytes, and the ranges of its
 /// streams and tables, each counted in bytes from the start of the file. `groups` is the first six index
-/// fields of LC_DYSYMTAB: first index and count of local, external and undefined symbols.
+/// fields of LC_DYSYMTAB: first index and count of local, external and undefined symbols. The header in the cache
+/// doesn't name `rebase`.
 #[derive(Clone, Copy, Debug, PartialEq, Eq)]
 pub struct LinkSpots {
     pub linkedit: Moved,

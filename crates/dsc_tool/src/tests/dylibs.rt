@@ -1,4 +1,6 @@
 // Files that tests build from.
+ghost use Rattle.std.specs.Prelude.{◌≤◌};
+
 use dsc_base::{Field, NoMemory, spell_fields};
 use std::alloc::Global;
 
@@ -125,6 +127,70 @@ pub(super) fn data_dylib(alloc: Global) -> Result<Vec<u8>, NoMemory> {
     ];
     let mut bytes = file_of(alloc, &parts, 0x200)?;
     bytes.extend_from_slice(&spell_fields(alloc, &contents)?)?;
+    bytes.resize(0x2040, 0)?;
+    Ok(bytes)
+}
+
+// A dylib whose data segment has so many bytes in memory, of which all but the first page are zeros that
+// aren't in the file.
+pub(super) fn large_dylib(alloc: Global, data_size: u64) -> Result<Vec<u8>, NoMemory>
+    requires { data_size ≤ 0x4000_0000 }
+{
+    let data = [
+        Field::U32(0x19),
+        Field::U32(232),
+        Field::Identifier(*DATA),
+        Field::U64(0x1000),
+        Field::U64(data_size),
+        Field::U64(0x1000),
+        Field::U64(0x1000),
+        Field::U32(3),
+        Field::U32(3),
+        Field::U32(2),
+        Field::U32(0),
+    ];
+    let zeros = [
+        Field::Identifier(*b"__bss\0\0\0\0\0\0\0\0\0\0\0"),
+        Field::Identifier(*DATA),
+        Field::U64(0x2000),
+        Field::U64(data_size.saturating_sub(0x1000)),
+        Field::Zeros(16),
+        Field::U32(1),
+        Field::Zeros(12),
+    ];
+    let linkedit = [
+        Field::U32(0x19),
+        Field::U32(72),
+        Field::Identifier(*LINKEDIT),
+        Field::U64(0x1000 + data_size),
+        Field::U64(0x1000),
+        Field::U64(0x2000),
+        Field::U64(0x40),
+        Field::U32(1),
+        Field::U32(1),
+        Field::U32(0),
+        Field::U32(0),
+    ];
+    let split = [
+        Field::U32(0x1E),
+        Field::U32(16),
+        Field::U32(0x2008),
+        Field::U32(2),
+    ];
+    let parts: [&[Field]; 8] = [
+        &header_fields(5, 0x200),
+        &segment_fields(TEXT, 0, 0x1000, 0x1000, 5, 1),
+        &section_fields(b"__text\0\0\0\0\0\0\0\0\0\0", TEXT, 0x400, 0x800),
+        &data,
+        &section_fields(b"__data\0\0\0\0\0\0\0\0\0\0", DATA, 0x1000, 0x1000),
+        &zeros,
+        &linkedit,
+        &INSTALL_NAME,
+    ];
+    let mut bytes = file_of(alloc, &parts, 0x210)?;
+    bytes.extend_from_slice(&spell_fields(alloc, &split)?)?;
+    bytes.resize(0x2008, 0)?;
+    bytes.push(0x7F)?;
     bytes.resize(0x2040, 0)?;
     Ok(bytes)
 }

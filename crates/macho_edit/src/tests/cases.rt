@@ -112,7 +112,7 @@ pub(super) const CASES: [Case; 2] = [
             },
             vmsize: 0x1000,
             filesize: 1,
-            rebase: Span { at: 0, len: 0 },
+            rebase: Span { at: 0x4000, len: 1 },
             bind: Span { at: 0x4000, len: 0 },
             lazy: Span { at: 0x4000, len: 0 },
             exports: Span { at: 0x4000, len: 0 },

@@ -16,4 +16,4 @@ returns-clause-bytes c =
 pub returns-clause-rereads : goal.returns-clause-rereads
 returns-clause-rereads c =
     reread_from c.args.image.now (image_view c.image.inside) c.args.moves.now c.deref.result.now c.args.spots.now c.in_ok-header.header.items
-    c.image.view_is (c.deref.ensures.value ∙ c.moves.view_is) c.in_ok-header.ensures.bytes c.image.invariant c.requires c.fit_fields.ensures
+    c.image.view_is (c.deref.ensures.value ∙ c.moves.view_is) c.in_ok-header.ensures.bytes c.image.invariant c.requires c.fit_fields.ensures.fields c.fit_fields.ensures.flags

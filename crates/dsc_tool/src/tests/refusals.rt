@@ -1,0 +1,138 @@
+// Numbers of four bytes that are set in the dylib with data, each with its place, and what is said of the file.
+
+// A second install name behind the other commands.
+const SECOND_NAME: [(usize, u32); 7] = [
+    (0x10, 7),
+    (0x14, 0x208),
+    (0x200, 0xD),
+    (0x204, 40),
+    (0x208, 24),
+    (0x218, 0x642E_612F),
+    (0x21C, 0x6269_6C79),
+];
+
+// With how many bytes of the file there are.
+pub(super) const REFUSED: [(&[(usize, u32)], usize, &str); 8] = [
+    (&[], 0x2040, "190 NotYet image 0 at 0x1c0"),
+    (&[], 0x100, "6 CommandShape image 0 at 0x14"),
+    (&[], 0x200, "10 SegmentShape image 0 at 0x20"),
+    (&[], 0x2003, "10 SegmentShape image 0 at 0x150"),
+    (&[], 0, "3 NotMachO image 0 at 0x0"),
+    (
+        &[(0x1CC, 0x41)],
+        0x2040,
+        "17 LinkeditRange image 0 at 0x1c0",
+    ),
+    (
+        &[(0x1F0, 0x8000_0034)],
+        0x2040,
+        "7 UnknownCommand image 0 at 0x1f0",
+    ),
+    (&SECOND_NAME, 0x2040, "8 CommandTwice image 0 at 0x200"),
+];
+
+// What isn't built yet, in the dylib whose rebase stream is emptied.
+pub(super) const NOT_YET: [(&[(usize, u32)], &str); 14] = [
+    // the magic of a universal file
+    (&[(0x0, 0xBEBA_FECA)], "190 NotYet image 0 at 0x0"),
+    // bind, weak_bind, lazy_bind and export
+    (
+        &[(0x1D0, 0x2000), (0x1D4, 1)],
+        "190 NotYet image 0 at 0x1c0",
+    ),
+    (
+        &[(0x1D8, 0x2000), (0x1DC, 1)],
+        "190 NotYet image 0 at 0x1c0",
+    ),
+    (
+        &[(0x1E0, 0x2000), (0x1E4, 1)],
+        "190 NotYet image 0 at 0x1c0",
+    ),
+    (
+        &[(0x1E8, 0x2000), (0x1EC, 1)],
+        "190 NotYet image 0 at 0x1c0",
+    ),
+    // split-segment information with a reference, and none at all
+    (&[(0x2008, 0x17F)], "190 NotYet image 0 at 0x1f0"),
+    (&[(0x1F0, 0x1D)], "190 NotYet image 0 at 0x0"),
+    // a dependency
+    (
+        &[
+            (0x10, 7),
+            (0x14, 0x208),
+            (0x200, 0xC),
+            (0x204, 40),
+            (0x208, 24),
+            (0x218, 0x642E_622F),
+        ],
+        "190 NotYet image 0 at 0x200",
+    ),
+    // symbols and strings
+    (
+        &[
+            (0x10, 7),
+            (0x14, 0x1F8),
+            (0x200, 2),
+            (0x204, 24),
+            (0x208, 0x2000),
+            (0x20C, 1),
+        ],
+        "190 NotYet image 0 at 0x200",
+    ),
+    (
+        &[
+            (0x10, 7),
+            (0x14, 0x1F8),
+            (0x200, 2),
+            (0x204, 24),
+            (0x210, 0x2000),
+            (0x214, 1),
+        ],
+        "190 NotYet image 0 at 0x200",
+    ),
+    // a group of symbols, and an indirect table
+    (
+        &[
+            (0x10, 7),
+            (0x14, 0x230),
+            (0x200, 0xB),
+            (0x204, 80),
+            (0x21C, 1),
+        ],
+        "190 NotYet image 0 at 0x200",
+    ),
+    (
+        &[
+            (0x10, 7),
+            (0x14, 0x230),
+            (0x200, 0xB),
+            (0x204, 80),
+            (0x238, 0x2000),
+            (0x23C, 1),
+        ],
+        "190 NotYet image 0 at 0x200",
+    ),
+    // function starts and data in code
+    (
+        &[
+            (0x10, 7),
+            (0x14, 0x1F0),
+            (0x200, 0x26),
+            (0x204, 16),
+            (0x208, 0x2000),
+            (0x20C, 1),
+        ],
+        "190 NotYet image 0 at 0x200",
+    ),
+    (
+        &[
+            (0x10, 7),
+            (0x14, 0x1F0),
+            (0x200, 0x29),
+            (0x204, 16),
+            (0x208, 0x2000),
+            (0x20C, 1),
+        ],
+        "190 NotYet image 0 at 0x200",
+    ),
+];
