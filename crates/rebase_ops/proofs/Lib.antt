@@ -1,9 +1,1 @@
-pub mod AcceptLaws
-pub mod CloseLaws
-pub mod OrderLaws
-pub mod PlaceLaws
-pub mod ReadLaws
 pub mod RebaseLaws
-pub mod RunLaws
-pub mod SectionLaws
-pub mod WordLaws

@@ -1,4 +1,2 @@
 pub mod Opcodes
-pub mod Order
-pub mod Places
 pub mod Rebases

@@ -1,13 +1,13 @@
 -- Rebase opcodes, by the REBASE_OPCODE_ numbers of mach-o/loader.h. The high four bits of a byte are an opcode's number and the low four its immediate; an operand is a variable-length number behind it.
-use Rattle.std.specs.Prelude.{ℕ, zero, suc, ◌+◌, ◌*◌, ◌/◌, ◌%◌, List, length, slice_index, Result, Ok, Err, nat_eq, nat_le, if◌then◌else◌}
-use Rattle.dsc_base.specs.declared.fault.Site.{Site}
+use Rattle.std.specs.Prelude.{ℕ, ◌+◌, ◌*◌, ◌/◌, ◌%◌, Bool, true, false, List, slice_index, Result, Ok, Err, nat_eq, if◌then◌else◌}
 use Rattle.dsc_base.specs.declared.fault.UlebFault.{UlebFault}
 use Rattle.dsc_base.specs.declared.rule.Rule.{Rule}
 use Rattle.dsc_base.specs.declared.rule.Rule.TheVariants.{RebaseBadUleb, RebaseBadOpcode, RebaseBadType}
 use Rattle.dsc_base.specs.Uleb.{uleb_at}
 use Rattle.rebase_ops.specs.declared.opcode.Opcode.{Opcode}
 use Rattle.rebase_ops.specs.declared.opcode.Opcode.TheVariants.{Done, SetPointerType, SetPlace, Advance, Record}
-use Rattle.rebase_ops.specs.Places.{wrap}
+use Rattle.word_places.specs.Places.{wrap}
+use Rattle.word_places.specs.Streams.{Spelling}
 
 infixl 10 ◌>>=◌
 abbrev pub ◌>>=◌ : {A B : Type 0} → Result A Rule → (A → Result B Rule) → Result B Rule
@@ -60,21 +60,10 @@ opcode_with number immediate bytes at =
 unfoldable pub opcode_at : List ℕ → ℕ → Result (Opcode × ℕ) Rule
 opcode_at bytes at = opcode_with (slice_index bytes at / 16) (slice_index bytes at % 16) bytes (at + 1)
 
--- The opcodes of a stream, each with its offset. They end with the stream or at DONE, or at the first one that breaks a rule.
-pub data Opcodes : Type 0 where
-  End : Opcodes
-  Refused : Site → Opcodes
-  Next : ℕ → Opcode → Opcodes → Opcodes
+-- DONE ends a stream
+abbrev pub ends : Opcode → Bool
+ends Done = true
+ends _ = false
 
-abbrev pub followed_by : ℕ → Result (Opcode × ℕ) Rule → (ℕ → Opcodes) → Opcodes
-followed_by at (Err rule) rest = Refused (record { rule = rule; at = at })
-followed_by at (Ok (Done, next)) rest = End
-followed_by at (Ok (opcode, next)) rest = Next at opcode (rest next)
-
--- the opcodes from a place on, so many at most: there are no more than bytes
-unfoldable pub opcodes_in : ℕ → List ℕ → ℕ → Opcodes
-opcodes_in zero bytes at = End
-opcodes_in (suc left) bytes at = if nat_le (length bytes) at then End else followed_by at (opcode_at bytes at) (opcodes_in left bytes)
-
-abbrev pub opcodes_of : List ℕ → Opcodes
-opcodes_of bytes = opcodes_in (length bytes) bytes 0
+abbrev pub spelling : Spelling Opcode Rule
+spelling = record { read = opcode_at; ends = ends }

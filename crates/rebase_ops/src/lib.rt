@@ -2,9 +2,7 @@
 //! the `REBASE_OPCODE_` numbers of `mach-o/loader.h` of Apple's published sources.
 #![tactic(auto)]
 
-mod close;
 mod opcode;
-mod place;
 mod read;
 mod run;
 #[cfg(test)]

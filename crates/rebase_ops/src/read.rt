@@ -1,20 +1,21 @@
 // A rebase stream read whole.
 ghost use Rattle.std.specs.Prelude.{◌≡◌, IfOk};
 ghost use Rattle.macho_image.specs.Refuses.{Refuses};
-ghost use Rattle.rebase_ops.specs.Opcodes.{opcodes_of};
+ghost use Rattle.word_places.specs.Streams.{opcodes_of, records, reading_break};
+ghost use Rattle.rebase_ops.specs.Opcodes.{spelling};
 ghost use Rattle.rebase_ops.specs.Rebases as spec;
 
-use crate::close::first_close;
 use crate::opcode::{Opcode, read_opcode};
 use crate::run::{Cursor, apply};
 use dsc_base::{Fault, Rule, Site};
 use macho_image::{Image, Location};
 use std::alloc::Global;
+use word_places::first_close;
 
 // The locations in reading order.
 fn read_stream(alloc: Global, stream: &[u8], image: &Image<'_>) -> Result<Vec<Location>, Fault>
-    ensures found { IfOk result (λ v. v.items ≡ spec.locations image.now spec.start (opcodes_of stream.now)) }
-    ensures cause { Refuses (spec.reading_break image.now spec.start 0 (opcodes_of stream.now)) result }
+    ensures found { IfOk result (λ v. v.items ≡ records (spec.meaning image.now) spec.start (opcodes_of spelling stream.now)) }
+    ensures cause { Refuses (reading_break (spec.meaning image.now) spec.start 0 (opcodes_of spelling stream.now)) result }
 {
     let mut out = Vec::new(alloc);
     let mut cursor = Cursor {

@@ -1,13 +1,14 @@
 // What one opcode records, and where the next one begins.
 ghost use Rattle.std.specs.Prelude.{◌≡◌, ◌++◌, ◌+◌, ◌*◌, length, map, option_map, IfOk, OnOk};
 ghost use Rattle.macho_image.specs.Refuses.{Refuses};
-ghost use Rattle.rebase_ops.specs.Places.{wrap, location};
-ghost use Rattle.rebase_ops.specs.Rebases.{progression, recorded, moved, first_fault, rule_of, site_of};
+ghost use Rattle.word_places.specs.Places.{wrap, location, unless};
+ghost use Rattle.word_places.specs.Runs.{progression, first_fault};
+ghost use Rattle.rebase_ops.specs.Rebases.{recorded, moved, rule_of, record_fault, site_of};
 
 use crate::opcode::Opcode;
-use crate::place::{PlaceFault, locate};
 use dsc_base::{Fault, Rule, Site};
 use macho_image::{Image, Location};
+use word_places::{PlaceFault, locate};
 
 /// The segment that is set, and the offset of the next record from its start.
 #[derive(Clone, Copy)]
@@ -16,18 +17,27 @@ pub(crate) struct Cursor {
     pub offset: u64,
 }
 
-impl PlaceFault {
-    fn rule(self) -> Rule
-        ensures { result ≡ rule_of self }
-    {
-        match self {
-            PlaceFault::OutsideSegment => Rule::RebaseOutsideSegment,
-            PlaceFault::NotWritable => Rule::RebaseNotWritable,
-            PlaceFault::OutsideSection => Rule::RebaseOutsideSection,
-            PlaceFault::Misaligned => Rule::RebaseMisaligned,
-            PlaceFault::CrossesPage => Rule::RebaseCrossesPage,
-            PlaceFault::TooMany => Rule::RebaseTooMany,
-        }
+fn rule_of(fault: PlaceFault) -> Rule
+    ensures { result ≡ rule_of fault }
+{
+    match fault {
+        PlaceFault::OutsideSegment => Rule::RebaseOutsideSegment,
+        PlaceFault::NotWritable => Rule::RebaseNotWritable,
+        PlaceFault::OutsideSection => Rule::RebaseOutsideSection,
+        PlaceFault::Misaligned => Rule::RebaseMisaligned,
+        PlaceFault::CrossesPage => Rule::RebaseCrossesPage,
+        PlaceFault::TooMany => Rule::RebaseTooMany,
+    }
+}
+
+// The word at an offset in the segment that is set, or the rule that a record there breaks, after so many of
+// the stream.
+fn place(image: &Image<'_>, cursor: Cursor, offset: u64, before: usize) -> Result<Location, Rule>
+    ensures { result ≡ unless (record_fault image.now cursor offset before) (location image.now cursor.segment offset) }
+{
+    match locate(image, cursor.segment, offset, before) {
+        Ok(location) => Ok(location),
+        Err(fault) => Err(rule_of(fault)),
     }
 }
 
@@ -43,15 +53,15 @@ fn record(
 ) -> Result<Cursor, Fault>
     ensures moved { IfOk result (λ c. c ≡ record { segment = cursor.segment; offset = wrap (cursor.offset + count * step) }) }
     ensures added { OnOk result (out.new.items ≡ out.old.items ++ map (location image.now cursor.segment) (progression cursor.offset step count)) }
-    ensures cause { Refuses (option_map (site_of at) (first_fault image.now cursor.segment (length out.old.items) (progression cursor.offset step count))) result }
+    ensures cause { Refuses (option_map (site_of at) (first_fault (record_fault image.now cursor) (length out.old.items) (progression cursor.offset step count))) result }
 {
     let mut offset = cursor.offset;
     for _ in 0..count {
-        match locate(image, cursor.segment, offset, out.len()) {
+        match place(image, cursor, offset, out.len()) {
             Ok(location) => out.push(location)?,
-            Err(fault) => {
+            Err(rule) => {
                 return Err(Fault::Broken(Site {
-                    rule: fault.rule(),
+                    rule,
                     at: at as u64,
                 }));
             }
@@ -74,7 +84,7 @@ pub(crate) fn apply(
 ) -> Result<Cursor, Fault>
     ensures moved { IfOk result (λ c. c ≡ moved cursor opcode) }
     ensures added { OnOk result (out.new.items ≡ out.old.items ++ map (location image.now cursor.segment) (recorded cursor opcode)) }
-    ensures cause { Refuses (option_map (site_of at) (first_fault image.now cursor.segment (length out.old.items) (recorded cursor opcode))) result }
+    ensures cause { Refuses (option_map (site_of at) (first_fault (record_fault image.now cursor) (length out.old.items) (recorded cursor opcode))) result }
 {
     match opcode {
         Opcode::Done | Opcode::SetPointerType => Ok(cursor),

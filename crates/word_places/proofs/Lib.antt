@@ -1,0 +1,11 @@
+pub mod CloseLaws
+pub mod IndexLaws
+pub mod NumberLaws
+pub mod OrderLaws
+pub mod PlaceLaws
+pub mod RunLaws
+pub mod SectionLaws
+pub mod SegmentLaws
+pub mod SoundSegments
+pub mod StreamLaws
+pub mod WordLaws
