@@ -1,9 +1,16 @@
 -- The cache of a set: its length, what its head says, its mappings and its slide information.
-use Rattle.std.proofs.Common.{◌≡◌, ◌≤◌, ◌<◌, ℕ, ◌+◌, ◌-◌, List, [], ◌∷◌, ◌++◌, take, drop, length, map, get_or, replicate, refl, sym, ap, ap₂, ◌∙◌, arith, length-append, append_assoc}
+use Rattle.std.proofs.Common.{◌≡◌, ◌≤◌, ◌<◌, ℕ, ◌+◌, ◌-◌, List, [], ◌∷◌, ◌++◌, take, drop, length, map, get_or, replicate, All, refl, sym, ap, ap₂, ◌∙◌, subst, arith, inl, inr, length-append, append_assoc}
 use Rattle.std.specs.List.{sum_by, enumerate_from}
-use Rattle.std.proofs.lemmas.List.{length-replicate, length-take-le, length-drop, take-append-drop, take_all, drop-drop}
+use Rattle.std.proofs.lemmas.Bool.{cases_lt}
+use Rattle.std.proofs.lemmas.List.{length-drop, take_all, get_or-append_right}
+use Rattle.std.proofs.lemmas.List.Elements.{All-head, All-tail}
+use Rattle.std.proofs.Math.ListN.{get_or-append}
 use Rattle.std.proofs.lemmas.List.Sums.{sum_by-cons}
 use Rattle.slide_chain.specs.Chains.{Slide, slid_area}
+use Rattle.dsc_base.specs.declared.edits.Edit.{Edit}
+use Rattle.dsc_base.specs.Numbers.{little_bytes}
+use Rattle.dsc_base.specs.Edits.{put_all, AllInside, ApartFrom, IsAmong}
+use Rattle.dsc_base.proofs.EditLaws.{length-put_all}
 use Rattle.std.proofs.Math.Seq.{drop-append_seam, take-append_seam}
 use Rattle.dsc_base.specs.Region.{region_size, paged, padded}
 use Rattle.macho_image.specs.Records.{Img}
@@ -17,26 +24,28 @@ use Rattle.cache_layout.specs.declared.mapping.Mapping.TheVariants.{Text, Writab
 use Rattle.cache_layout.specs.Places.{numbered, path_size, head_size}
 use Rattle.cache_layout.specs.Layouts.{Laid, layout_of}
 use Rattle.cache_layout.specs.Apart.{AreInTurn, move_at}
-use Rattle.cache_layout.specs.Parts.{mapping_part, AreWholePages}
+use Rattle.cache_layout.specs.Parts.{mapping_part, joined, AreWholePages}
 use Rattle.cache_layout.proofs.PlaceLaws.{are_in_turn}
 use Rattle.cache_layout.proofs.PartLaws.{length-mapping_part}
 use Rattle.cache_layout.proofs.NumberedLaws.{numbered-get, length-numbered}
 use Rattle.cache_layout.proofs.RoomLaws.{paged-covers}
 use Rattle.slide_chain.specs.Info.{info_read}
 use Rattle.slide_chain.specs.Making.{info_of}
+use Rattle.load_model.specs.Memory.{wrap}
+use Rattle.load_model.specs.Linking.{IsPointer, places, ArePointers, linked_data}
 use Rattle.load_model.specs.Mapped.{three_mappings}
+use Rattle.load_model.proofs.ChainLaws.{length-info, info_is}
+use Rattle.load_model.proofs.PointerLaws.{ArePages, slid_pointer, pointers_set, slid_set, length-linked_data, slid_linked, pointer_byte, other_byte}
 use Rattle.load_model.proofs.MappedLaws.{IsThree, slid_data, slid_cache}
 use Rattle.cache_build.specs.Places.{slide_place, slide_size, linkedit_size, span_of}
 use Rattle.cache_build.specs.Head.{entry_of, head_of}
 use Rattle.cache_build.specs.Cache.{headers_of, all_pages, slide_bytes, tail_of, cache_from, cache_of}
 use Rattle.cache_build.specs.Fits.{CanAssemble}
-use Rattle.cache_build.proofs.PageLaws.{slid_none, info_is, length-info}
+use Rattle.cache_build.specs.Pointers.{pointers_of}
 use Rattle.cache_build.proofs.HeadFacts.{IsReady, assembles, head_fits, head_writable}
+use Rattle.cache_build.proofs.WholePages.{length-padded}
 
 -- ---- lengths
-
-pub length-padded : (size : ℕ) (bytes : List ℕ) → length bytes ≤ size → length (padded size bytes) ≡ size
-length-padded size bytes le = length-append bytes (replicate (size - length bytes) 0) ∙ omega (arith, le, length-replicate {A = ℕ} (size - length bytes) 0)
 
 sum_paths : (l : Laid) (n : ℕ) (is : List Img) → sum_by path_room (map (λ (p : ℕ × Img). entry_of l p.0 p.1) (enumerate_from n is)) ≡ sum_by path_size is
 sum_paths l n [] = refl
@@ -62,19 +71,29 @@ head_room is ready =
 pub head_long : (is : List Img) → IsReady is → length (padded (layout_of is).text.at (head_bytes (own_head is))) ≡ (layout_of is).text.at
 head_long is ready = length-padded (layout_of is).text.at (head_bytes (own_head is)) (head_room is ready)
 
+-- the parts of a cache: the segments of each mapping, the pointers in its data, and what follows the data
+abbrev pub set_pages : List Img → ℕ → ℕ → List ℕ
+set_pages is = all_pages (headers_of (layout_of is) is) is
+
+abbrev pub own_pointers : List Img → List Edit
+own_pointers is = pointers_of (layout_of is) is
+
+abbrev pub own_data : List Img → List ℕ
+own_data is = mapping_part Writable (set_pages is) is
+
+abbrev pub data_and_behind : List Img → List ℕ → List ℕ
+data_and_behind is area = area ++ (mapping_part Fixed (set_pages is) is ++ tail_of (layout_of is) (own_pointers is))
+
 -- what stands behind the head
 abbrev pub behind_head : List Img → List ℕ
 behind_head is =
-    let l : Laid = layout_of is in
-    let pages : ℕ → ℕ → List ℕ = all_pages (headers_of l is) is in
-    replicate (l.text.at - length (head_bytes (own_head is))) 0 ++ (mapping_part Text pages is ++ (mapping_part Writable pages is ++ (mapping_part Fixed pages is ++ tail_of l)))
+    replicate ((layout_of is).text.at - length (head_bytes (own_head is))) 0
+    ++ (mapping_part Text (set_pages is) is ++ data_and_behind is (linked_data (own_pointers is) (own_data is)))
 
 pub head_first : (is : List Img) → cache_of is ≡ head_bytes (own_head is) ++ behind_head is
 unfolding cache_from
 head_first is =
-    let l : Laid = layout_of is in
-    let pages : ℕ → ℕ → List ℕ = all_pages (headers_of l is) is in
-    padded_head l.text.at (own_head is) (mapping_part Text pages is ++ (mapping_part Writable pages is ++ (mapping_part Fixed pages is ++ tail_of l)))
+    padded_head (layout_of is).text.at (own_head is) (mapping_part Text (set_pages is) is ++ data_and_behind is (linked_data (own_pointers is) (own_data is)))
 
 -- ---- what the head says
 
@@ -119,87 +138,236 @@ slide_there is ready =
 
 -- ---- its parts
 
-length-tail : (l : Laid) → length (tail_of l) ≡ paged (slide_size l) + paged linkedit_size
+-- the segments have whole pages, and the pointers stand in the data
+pub record IsLinked (is : List Img) : Type 0 where
+  pub whole : AreWholePages (set_pages is) is
+  pub pointers : ArePointers (layout_of is).writable.len (own_pointers is)
+  pub bytes : (n : ℕ) → get_or (own_data is) n 0 < 256
+
+-- what stands before the data
+abbrev pub before_data : List Img → List ℕ
+before_data is = padded (layout_of is).text.at (head_bytes (own_head is)) ++ mapping_part Text (set_pages is) is
+
+-- the cache with other bytes in place of its data, and without any pointer set, and with the pointers slid
+abbrev pub cache_around : List Img → List ℕ → List ℕ
+cache_around is area = before_data is ++ data_and_behind is area
+
+abbrev pub plain_of : List Img → List ℕ
+plain_of is = cache_around is (own_data is)
+
+abbrev pub slid_of : List Img → ℕ → List ℕ
+slid_of is slide = cache_around is (put_all (map (slid_pointer slide) (own_pointers is)) (own_data is))
+
+cache_parts : (is : List Img) → cache_of is ≡ cache_around is (linked_data (own_pointers is) (own_data is))
+unfolding cache_from
+cache_parts is =
+    sym (append_assoc (padded (layout_of is).text.at (head_bytes (own_head is))) (mapping_part Text (set_pages is) is) (data_and_behind is (linked_data (own_pointers is) (own_data is))))
+
+pub plain_joined : (is : List Img) → joined (padded (layout_of is).text.at (head_bytes (own_head is))) (set_pages is) is (tail_of (layout_of is) (own_pointers is)) ≡ plain_of is
+plain_joined is = sym (append_assoc (padded (layout_of is).text.at (head_bytes (own_head is))) (mapping_part Text (set_pages is) is) (data_and_behind is (own_data is)))
+
+length-tail : (is : List Img) → IsLinked is → length (tail_of (layout_of is) (own_pointers is)) ≡ paged (slide_size (layout_of is)) + paged linkedit_size
 unfolding paged
-length-tail l =
-    let slide : length (slide_bytes l) ≡ slide_size l = length-info l.writable.len in
-    let room : length (padded (paged (slide_size l)) (slide_bytes l)) ≡ paged (slide_size l) = length-padded (paged (slide_size l)) (slide_bytes l) (omega (arith, slide, paged-covers (slide_size l))) in
-    length-append (padded (paged (slide_size l)) (slide_bytes l)) (padded (paged linkedit_size) (0 ∷ [])) ∙ omega (arith, room, length-padded (paged linkedit_size) (0 ∷ []) (omega arith))
-
--- the parts up to the tail, as long as the layout says
-fronts : (is : List Img) → IsReady is → AreWholePages (all_pages (headers_of (layout_of is) is) is) is
-    → (front : List ℕ) × (cache_of is ≡ front ++ tail_of (layout_of is)) × (length front ≡ slide_place (layout_of is))
-unfolding cache_from layout_of
-fronts is ready whole =
+length-tail is linked =
     let l : Laid = layout_of is in
-    let pages : ℕ → ℕ → List ℕ = all_pages (headers_of l is) is in
-    let head : List ℕ = padded l.text.at (head_bytes (own_head is)) in
-    let t : List ℕ = mapping_part Text pages is in
-    let w : List ℕ = mapping_part Writable pages is in
-    let f : List ℕ = mapping_part Fixed pages is in
+    let slide : length (slide_bytes l (own_pointers is)) ≡ slide_size l = length-info l.writable.len (places (own_pointers is)) linked.pointers.words in
+    let room : length (padded (paged (slide_size l)) (slide_bytes l (own_pointers is))) ≡ paged (slide_size l) = length-padded (paged (slide_size l)) (slide_bytes l (own_pointers is)) (omega (arith, slide, paged-covers (slide_size l))) in
+    length-append (padded (paged (slide_size l)) (slide_bytes l (own_pointers is))) (padded (paged linkedit_size) (0 ∷ [])) ∙ omega (arith, room, length-padded (paged linkedit_size) (0 ∷ []) (omega arith))
+
+pub length-before : (is : List Img) → IsReady is → IsLinked is → length (before_data is) ≡ (layout_of is).writable.at
+unfolding layout_of
+length-before is ready linked =
     let turn : AreInTurn is (layout_of is) = are_in_turn is ready.none in
-    let long : length head ≡ l.text.at = length-padded l.text.at (head_bytes (own_head is)) (head_room is ready) in (
-      head ++ (t ++ (w ++ f)),
-      ap (λ (x : List ℕ). head ++ x) (ap (λ (x : List ℕ). t ++ x) (sym (append_assoc w f (tail_of l))) ∙ sym (append_assoc t (w ++ f) (tail_of l))) ∙ sym (append_assoc head (t ++ (w ++ f)) (tail_of l)),
-      length-append head (t ++ (w ++ f)) ∙ omega (arith, long, length-append t (w ++ f), length-append w f, length-mapping_part Text pages is whole, length-mapping_part Writable pages is whole, length-mapping_part Fixed pages is whole, turn.writable, turn.fixed),
-    )
+    length-append (padded (layout_of is).text.at (head_bytes (own_head is))) (mapping_part Text (set_pages is) is)
+    ∙ omega (arith, head_long is ready, length-mapping_part Text (set_pages is) is linked.whole, turn.writable)
 
-pub long_is : (is : List Img) → IsReady is → AreWholePages (all_pages (headers_of (layout_of is) is) is) is → length (cache_of is) ≡ span_of (layout_of is)
-long_is is ready whole =
-    let parts = fronts is ready whole in
-    ap (λ (c : List ℕ). length c) parts.1 ∙ (length-append parts.0 (tail_of (layout_of is)) ∙ omega (arith, parts.2, length-tail (layout_of is)))
+pub length-data : (is : List Img) → IsLinked is → length (own_data is) ≡ (layout_of is).writable.len
+unfolding layout_of
+length-data is linked = length-mapping_part Writable (set_pages is) is linked.whole
 
-info_there : (is : List Img) → IsReady is → AreWholePages (all_pages (headers_of (layout_of is) is) is) is → info_read (slide_info_bytes (cache_of is)) ≡ info_of 16 (layout_of is).writable.len []
-info_there is ready whole =
+pub data_pages : (is : List Img) → IsReady is → IsLinked is → ArePages (layout_of is).writable.len (own_data is)
+data_pages is ready linked = record { whole = (assembles is ready).pages; long = length-data is linked; bytes = linked.bytes }
+
+length-around : (is : List Img) (area : List ℕ) → IsReady is → IsLinked is → length area ≡ (layout_of is).writable.len → length (cache_around is area) ≡ span_of (layout_of is)
+unfolding layout_of
+length-around is area ready linked long =
     let l : Laid = layout_of is in
-    let parts = fronts is ready whole in
-    let slide : length (slide_bytes l) ≡ slide_size l = length-info l.writable.len in
-    let zeros : List ℕ = replicate (paged (slide_size l) - length (slide_bytes l)) 0 in
+    let f : List ℕ = mapping_part Fixed (set_pages is) is in
+    let tail : List ℕ = tail_of l (own_pointers is) in
+    let turn : AreInTurn is (layout_of is) = are_in_turn is ready.none in
+    length-append (before_data is) (data_and_behind is area)
+    ∙ omega (arith, length-before is ready linked, length-append area (f ++ tail), length-append f tail, long, length-tail is linked, length-mapping_part Fixed (set_pages is) is linked.whole, turn.fixed)
+
+linked_long : (is : List Img) → IsReady is → IsLinked is → length (linked_data (own_pointers is) (own_data is)) ≡ (layout_of is).writable.len
+linked_long is ready linked = length-linked_data (layout_of is).writable.len (own_pointers is) (own_data is) (data_pages is ready linked) linked.pointers ∙ length-data is linked
+
+pub long_is : (is : List Img) → IsReady is → IsLinked is → length (cache_of is) ≡ span_of (layout_of is)
+long_is is ready linked =
+    ap (λ (c : List ℕ). length c) (cache_parts is) ∙ length-around is (linked_data (own_pointers is) (own_data is)) ready linked (linked_long is ready linked)
+
+slid_long : (is : List Img) → IsReady is → IsLinked is → (slide : ℕ) → length (put_all (map (slid_pointer slide) (own_pointers is)) (own_data is)) ≡ (layout_of is).writable.len
+slid_long is ready linked slide =
+    let len : ℕ = (layout_of is).writable.len in
+    let inside : AllInside len (map (slid_pointer slide) (own_pointers is)) = (slid_set slide len (own_pointers is) (assembles is ready).pages linked.pointers).inside in
+    length-put_all (map (slid_pointer slide) (own_pointers is)) (own_data is) (subst (λ (n : ℕ). AllInside n (map (slid_pointer slide) (own_pointers is))) (sym (length-data is linked)) inside)
+    ∙ length-data is linked
+
+pub length-slid_of : (is : List Img) → IsReady is → IsLinked is → (slide : ℕ) → length (slid_of is slide) ≡ span_of (layout_of is)
+length-slid_of is ready linked slide = length-around is (put_all (map (slid_pointer slide) (own_pointers is)) (own_data is)) ready linked (slid_long is ready linked slide)
+
+-- three parts, of which the middle one ends where the last one begins
+take_first : (a : ℕ) (front rest : List ℕ) → length front ≡ a → take a (front ++ rest) ≡ front
+take_first a front rest long = ap (λ (n : ℕ). take n (front ++ rest)) (sym long) ∙ take-append_seam front rest
+
+drop_first : (a : ℕ) (front rest : List ℕ) → length front ≡ a → drop a (front ++ rest) ≡ rest
+drop_first a front rest long = ap (λ (n : ℕ). drop n (front ++ rest)) (sym long) ∙ drop-append_seam front rest
+
+drop_two : (a b : ℕ) (front mid rest : List ℕ) → length front ≡ a → length mid ≡ b → drop (a + b) (front ++ (mid ++ rest)) ≡ rest
+drop_two a b front mid rest long long' =
+    ap (λ (c : List ℕ). drop (a + b) c) (sym (append_assoc front mid rest))
+    ∙ drop_first (a + b) (front ++ mid) rest (length-append front mid ∙ omega (arith, long, long'))
+
+-- where slide information stands
+before_tail : (is : List Img) → List ℕ → List ℕ
+before_tail is area = before_data is ++ (area ++ mapping_part Fixed (set_pages is) is)
+
+tail_last : (is : List Img) (area : List ℕ) → cache_around is area ≡ before_tail is area ++ tail_of (layout_of is) (own_pointers is)
+unfolding before_tail
+tail_last is area =
+    let f : List ℕ = mapping_part Fixed (set_pages is) is in
+    let tail : List ℕ = tail_of (layout_of is) (own_pointers is) in
+    ap (λ (c : List ℕ). before_data is ++ c) (sym (append_assoc area f tail)) ∙ sym (append_assoc (before_data is) (area ++ f) tail)
+
+length-before_tail : (is : List Img) (area : List ℕ) → IsReady is → IsLinked is → length area ≡ (layout_of is).writable.len → length (before_tail is area) ≡ slide_place (layout_of is)
+unfolding before_tail layout_of
+length-before_tail is area ready linked long =
+    let f : List ℕ = mapping_part Fixed (set_pages is) is in
+    let turn : AreInTurn is (layout_of is) = are_in_turn is ready.none in
+    length-append (before_data is) (area ++ f)
+    ∙ omega (arith, length-before is ready linked, length-append area f, long, length-mapping_part Fixed (set_pages is) is linked.whole, turn.fixed)
+
+info_there : (is : List Img) → IsReady is → IsLinked is → info_read (slide_info_bytes (cache_of is)) ≡ info_of 16 (layout_of is).writable.len (places (own_pointers is))
+info_there is ready linked =
+    let l : Laid = layout_of is in
+    let area : List ℕ = linked_data (own_pointers is) (own_data is) in
+    let bytes : List ℕ = slide_bytes l (own_pointers is) in
+    let slide : length (slide_bytes l (own_pointers is)) ≡ slide_size l = length-info l.writable.len (places (own_pointers is)) linked.pointers.words in
+    let zeros : List ℕ = replicate (paged (slide_size l) - length bytes) 0 in
+    let behind : List ℕ = padded (paged linkedit_size) (0 ∷ []) in
     let can : CanAssemble l is = assembles is ready in
     ap info_read (slide_there is ready
-    ∙ (ap (λ (c : List ℕ). take (slide_size l) (drop (slide_place l) c)) parts.1
-    ∙ (ap (λ (n : ℕ). take (slide_size l) (drop n (parts.0 ++ tail_of l))) (sym parts.2)
-    ∙ (ap (λ (c : List ℕ). take (slide_size l) c) (drop-append_seam parts.0 (tail_of l))
-    ∙ (ap (λ (c : List ℕ). take (slide_size l) c) (append_assoc (slide_bytes l) zeros (padded (paged linkedit_size) (0 ∷ [])))
-    ∙ (ap (λ (n : ℕ). take n (slide_bytes l ++ (zeros ++ padded (paged linkedit_size) (0 ∷ [])))) (sym slide)
-    ∙ take-append_seam (slide_bytes l) (zeros ++ padded (paged linkedit_size) (0 ∷ []))))))))
-    ∙ info_is l.writable.len (omega (arith, can.writable, can.span))
+    ∙ (ap (λ (c : List ℕ). take (slide_size l) (drop (slide_place l) c)) (cache_parts is ∙ tail_last is area)
+    ∙ (ap (λ (c : List ℕ). take (slide_size l) c) (drop_first (slide_place l) (before_tail is area) (tail_of l (own_pointers is)) (length-before_tail is area ready linked (linked_long is ready linked)))
+    ∙ (ap (λ (c : List ℕ). take (slide_size l) c) (append_assoc bytes zeros behind)
+    ∙ take_first (slide_size l) bytes (zeros ++ behind) slide))))
+    ∙ info_is l.writable.len (places (own_pointers is)) (omega (arith, can.writable, can.span)) linked.pointers.words
 
-slid_same : (is : List Img) → IsReady is → AreWholePages (all_pages (headers_of (layout_of is) is) is) is → (slide : ℕ)
-    → slid_data (cache_of is) (layout_of is).writable.at (layout_of is).writable.len slide ≡ take (layout_of is).writable.len (drop (layout_of is).writable.at (cache_of is))
-slid_same is ready whole slide =
-    let area : List ℕ = take (layout_of is).writable.len (drop (layout_of is).writable.at (cache_of is)) in
-    ap (λ (s : Slide). slid_area s slide area) (info_there is ready whole) ∙ slid_none (layout_of is).writable.len slide area
+-- the data of the cache, slid
+slid_is : (is : List Img) → IsReady is → IsLinked is → (slide : ℕ)
+    → slid_data (cache_of is) (layout_of is).writable.at (layout_of is).writable.len slide ≡ put_all (map (slid_pointer slide) (own_pointers is)) (own_data is)
+slid_is is ready linked slide =
+    let l : Laid = layout_of is in
+    let area : List ℕ = linked_data (own_pointers is) (own_data is) in
+    let behind : List ℕ = mapping_part Fixed (set_pages is) is ++ tail_of l (own_pointers is) in
+    let there : take l.writable.len (drop l.writable.at (cache_of is)) ≡ area =
+    ap (λ (c : List ℕ). take l.writable.len (drop l.writable.at c)) (cache_parts is)
+    ∙ (ap (λ (c : List ℕ). take l.writable.len c) (drop_first l.writable.at (before_data is) (data_and_behind is area) (length-before is ready linked))
+    ∙ take_first l.writable.len area behind (linked_long is ready linked)) in
+    ap₂ (λ (s : Slide) (b : List ℕ). slid_area s slide b) (info_there is ready linked) there
+    ∙ slid_linked l.writable.len slide (own_pointers is) (own_data is) (data_pages is ready linked) linked.pointers
 
 abbrev pub rest_of : Laid → ℕ
 rest_of l = span_of l - (l.writable.at + l.writable.len)
 
-pub three_is : (is : List Img) → IsReady is → AreWholePages (all_pages (headers_of (layout_of is) is) is) is → IsThree (cache_of is) (layout_of is).writable.at (layout_of is).writable.len (rest_of (layout_of is))
-three_is is ready whole =
+pub three_is : (is : List Img) → IsReady is → IsLinked is → IsThree (cache_of is) (layout_of is).writable.at (layout_of is).writable.len (rest_of (layout_of is))
+three_is is ready linked =
     let l : Laid = layout_of is in
     let can : CanAssemble l is = assembles is ready in
-    let long : length (cache_of is) ≡ span_of l = long_is is ready whole in
+    let long : length (cache_of is) ≡ span_of l = long_is is ready linked in
     let whole_span : l.writable.at + (l.writable.len + rest_of l) ≡ span_of l = omega (arith, can.writable) in
     record {
       mappings = mappings_is is ready;
       long = omega (arith, long, whole_span);
       low = omega (arith, whole_span, can.span);
-      slid = λ slide.
-          ap (λ (c : List ℕ). length c) (slid_same is ready whole slide)
-          ∙ length-take-le l.writable.len (drop l.writable.at (cache_of is)) (omega (arith, length-drop l.writable.at (cache_of is), long, can.writable));
+      slid = λ slide. ap (λ (c : List ℕ). length c) (slid_is is ready linked slide) ∙ slid_long is ready linked slide;
     }
 
--- nothing of it slides
-pub same_cache : (is : List Img) → IsReady is → AreWholePages (all_pages (headers_of (layout_of is) is) is) is → (slide : ℕ)
-    → slid_cache (cache_of is) (layout_of is).writable.at (layout_of is).writable.len (rest_of (layout_of is)) slide ≡ cache_of is
-same_cache is ready whole slide =
+-- the cache with its data slid
+pub slid_cache_is : (is : List Img) → IsReady is → IsLinked is → (slide : ℕ)
+    → slid_cache (cache_of is) (layout_of is).writable.at (layout_of is).writable.len (rest_of (layout_of is)) slide ≡ slid_of is slide
+slid_cache_is is ready linked slide =
     let l : Laid = layout_of is in
     let can : CanAssemble l is = assembles is ready in
-    let c : List ℕ = cache_of is in
-    let a : ℕ = l.writable.at in
-    let b : ℕ = l.writable.len in
-    let long : length (cache_of is) ≡ span_of l = long_is is ready whole in
-    let last : take (rest_of l) (drop (a + b) c) ≡ drop (a + b) c = take_all (rest_of l) (drop (a + b) c) (omega (arith, length-drop (a + b) c, long)) in
-    let further : drop b (drop a c) ≡ drop (a + b) c = drop-drop b a c ∙ ap (λ (n : ℕ). drop n c) (omega arith) in
-    ap₂ (λ (m r : List ℕ). take a c ++ (m ++ r)) (slid_same is ready whole slide) (last ∙ sym further)
-    ∙ (ap (λ (m : List ℕ). take a c ++ m) (take-append-drop b (drop a c)) ∙ take-append-drop a c)
+    let area : List ℕ = linked_data (own_pointers is) (own_data is) in
+    let behind : List ℕ = mapping_part Fixed (set_pages is) is ++ tail_of l (own_pointers is) in
+    let first : take l.writable.at (cache_of is) ≡ before_data is =
+    ap (λ (c : List ℕ). take l.writable.at c) (cache_parts is) ∙ take_first l.writable.at (before_data is) (data_and_behind is area) (length-before is ready linked) in
+    let long : length (drop (l.writable.at + l.writable.len) (cache_of is)) ≤ rest_of l =
+    omega (arith, length-drop (l.writable.at + l.writable.len) (cache_of is), long_is is ready linked) in
+    let last : take (rest_of l) (drop (l.writable.at + l.writable.len) (cache_of is)) ≡ behind =
+    take_all (rest_of l) (drop (l.writable.at + l.writable.len) (cache_of is)) long
+    ∙ (ap (λ (c : List ℕ). drop (l.writable.at + l.writable.len) c) (cache_parts is)
+    ∙ drop_two l.writable.at l.writable.len (before_data is) area behind (length-before is ready linked) (linked_long is ready linked)) in
+    ap₂ (λ (a c : List ℕ). a ++ c) first (ap₂ (λ (m r : List ℕ). m ++ r) (slid_is is ready linked slide) last)
+
+-- ---- its bytes
+
+-- two lists that differ in a part alone
+part_byte : (front p q rest : List ℕ) (f : ℕ) → length p ≡ length q → (length front ≤ f → f < length front + length q → get_or p (f - length front) 0 ≡ get_or q (f - length front) 0)
+    → get_or (front ++ (p ++ rest)) f 0 ≡ get_or (front ++ (q ++ rest)) f 0
+part_byte front p q rest f same inside = elim (cases_lt f (length front)) [
+  | inl before ↦ get_or-append front (p ++ rest) 0 f before ∙ sym (get_or-append front (q ++ rest) 0 f before)
+  | inr from ↦
+      get_or-append_right front (p ++ rest) (length front) f 0 refl from
+      ∙ (elim (cases_lt (f - length front) (length q)) [
+        | inl within ↦
+            get_or-append p rest 0 (f - length front) (omega (arith, same, within))
+            ∙ (inside from (omega (arith, from, within)) ∙ sym (get_or-append q rest 0 (f - length front) within))
+        | inr behind ↦
+            get_or-append_right p rest (length q) (f - length front) 0 same behind
+            ∙ sym (get_or-append_right q rest (length q) (f - length front) 0 refl behind)
+      ]
+      ∙ sym (get_or-append_right front (q ++ rest) (length front) f 0 refl from))
+]
+
+-- a place of the cache that is in no pointer
+abbrev pub IsFree : List Img → ℕ → Type 0
+IsFree is f = (layout_of is).writable.at ≤ f → ApartFrom (f - (layout_of is).writable.at) 1 (own_pointers is)
+
+-- has the byte that was there before pointers were set
+pub free_byte : (is : List Img) → IsReady is → IsLinked is → (slide f : ℕ) → IsFree is f → get_or (slid_of is slide) f 0 ≡ get_or (plain_of is) f 0
+free_byte is ready linked slide f free =
+    let l : Laid = layout_of is in
+    let long : length (before_data is) ≡ l.writable.at = length-before is ready linked in
+    part_byte (before_data is) (put_all (map (slid_pointer slide) (own_pointers is)) (own_data is)) (own_data is) (mapping_part Fixed (set_pages is) is ++ tail_of l (own_pointers is)) f
+    (slid_long is ready linked slide ∙ sym (length-data is linked))
+    (λ from within.
+    let apart : ApartFrom (f - length (before_data is)) 1 (own_pointers is) = subst (λ (n : ℕ). ApartFrom (f - n) 1 (own_pointers is)) (sym long) (free (omega (arith, from, long))) in
+    other_byte l.writable.len slide (f - length (before_data is)) (own_pointers is) (own_data is) (data_pages is ready linked) linked.pointers apart)
+
+-- a pointer stands in the data
+inside_at : (n : ℕ) (es : List Edit) (e : Edit) → AllInside n es → All IsPointer es → IsAmong e es → e.at + 8 ≤ n
+inside_at n [] e inside values among = absurd among
+inside_at n (d ∷ es) e inside values among = elim among [
+  | inl is ↦
+      let first : IsPointer d = All-head IsPointer d es values in
+      let at : e.at ≡ d.at = ap (λ (x : Edit). x.at) is in
+      omega (arith, inside.0, first.width, at)
+  | inr later ↦ inside_at n es e inside.1 (All-tail IsPointer d es values) later
+]
+
+pub pointer_inside : (is : List Img) → IsReady is → IsLinked is → (e : Edit) → IsAmong e (own_pointers is) → e.at + 8 ≤ (layout_of is).writable.len
+pointer_inside is ready linked e among =
+    inside_at (layout_of is).writable.len (own_pointers is) e (pointers_set (layout_of is).writable.len (own_pointers is) (assembles is ready).pages linked.pointers).inside linked.pointers.values among
+
+-- a pointer has its number, slid
+pub slid_byte : (is : List Img) → IsReady is → IsLinked is → (slide k : ℕ) (e : Edit) → IsAmong e (own_pointers is) → k < 8
+    → get_or (slid_of is slide) ((layout_of is).writable.at + (e.at + k)) 0 ≡ get_or (little_bytes 8 (wrap (e.value + slide))) k 0
+slid_byte is ready linked slide k e among lt =
+    let l : Laid = layout_of is in
+    let p : List ℕ = put_all (map (slid_pointer slide) (own_pointers is)) (own_data is) in
+    let inside : e.at + 8 ≤ l.writable.len = pointer_inside is ready linked e among in
+    get_or-append_right (before_data is) (data_and_behind is p) l.writable.at (l.writable.at + (e.at + k)) 0 (length-before is ready linked) (omega arith)
+    ∙ (ap (λ (n : ℕ). get_or (data_and_behind is p) n 0) (omega arith)
+    ∙ (get_or-append p (mapping_part Fixed (set_pages is) is ++ tail_of l (own_pointers is)) 0 (e.at + k) (omega (arith, slid_long is ready linked slide, inside, lt))
+    ∙ pointer_byte l.writable.len slide k e (own_pointers is) (own_data is) (data_pages is ready linked) linked.pointers among lt))

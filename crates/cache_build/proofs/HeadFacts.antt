@@ -4,7 +4,7 @@ use Rattle.std.proofs.lemmas.Bool.{eqb-true}
 use Rattle.std.proofs.lemmas.List.{get_or_default, length-take-le, length-drop}
 use Rattle.std.specs.List.{AllByRecursion}
 use Rattle.dsc_base.specs.Numbers.{number_at}
-use Rattle.macho_image.specs.Records.{Img}
+use Rattle.macho_image.specs.Records.{Seg, Img}
 use Rattle.macho_image.specs.Macho.{number_of, is_uuid, commands_of, command_where, uuid_of}
 use Rattle.macho_image.specs.Rules.{least_size}
 use Rattle.macho_image.specs.Breaks.{IsSound}
@@ -22,6 +22,7 @@ use Rattle.cache_layout.proofs.SoundLaws.{sound_linkedit}
 use Rattle.cache_layout.proofs.NumberedLaws.{numbered-get, length-numbered}
 use Rattle.load_model.specs.Mapped.{three_mappings}
 use Rattle.cache_build.specs.Places.{span_of}
+use Rattle.cache_build.specs.Breaks.{streams_break, in_each, pointer_break}
 use Rattle.cache_build.specs.Head.{entry_of, head_of}
 use Rattle.cache_build.specs.Fits.{Fits, CanAssemble}
 use Rattle.cache_build.proofs.HeadLaws.{no_image, writable_head}
@@ -31,8 +32,11 @@ use Rattle.cache_build.proofs.FitsLaws.{AreSound, can_assemble, two_segments, no
 pub record IsReady (is : List Img) : Type 0 where
   pub few : length is ≤ 4096
   pub sound : AreSound is
+  pub streams : streams_break is ≡ None
+  pub lead : in_each pointer_break 0 is ≡ None
   pub none : layout_break is ≡ None
   pub small : span_of (layout_of is) ≤ 0x20000000
+  pub bytes : (k g : ℕ) (i : Img) (s : Seg) → IsSegment is k g i s → (n : ℕ) → get_or s.bytes n 0 < 256
 
 pub assembles : (is : List Img) → IsReady is → CanAssemble (layout_of is) is
 assembles is ready = can_assemble is ready.few ready.sound ready.none ready.small

@@ -10,7 +10,7 @@ use Rattle.dsc_base.specs.declared.fault.SetFault.{SetFault}
 use Rattle.macho_image.specs.Records.{Img}
 use Rattle.macho_image.specs.Macho.{image_of}
 use Rattle.macho_image.specs.Refuses.{IsRefusal}
-use Rattle.cache_build.specs.Breaks.{shape_break, each_file, images_of}
+use Rattle.cache_build.specs.Breaks.{shape_break, in_each, images_of}
 use Rattle.cache_build.specs.Built.{contents, set_fault, IsSetRefusal}
 
 abbrev pub File : Type 0
@@ -22,15 +22,15 @@ image_in f = image_of f.items 0
 -- so many files are accepted, and these are their images
 pub record AreAccepted (files : List (Vec ℕ Global)) (images : List Img) (n : ℕ) : Type 0 where
   pub images_are : images ≡ images_of (contents (take n files))
-  pub rest : each_file shape_break n (contents (drop n files)) ≡ each_file shape_break 0 (contents files)
+  pub rest : in_each shape_break n (contents (drop n files)) ≡ in_each shape_break 0 (contents files)
 
 -- the next file decides
 step : (files : List (Vec ℕ Global)) (images : List Img) (n : ℕ) (f : Vec ℕ Global) → AreAccepted files images n → n < length files → f ≡ get_or files n f
-    → option_or {T = Break} (option_map {T = Site} {U = Break} (λ (s : Site). record { rule = s.rule; image = n; at = s.at }) (shape_break f.items)) (each_file shape_break (n + 1) (contents (drop (n + 1) files)))
-    ≡ each_file shape_break 0 (contents files)
-unfolding each_file
+    → option_or {T = Break} (option_map {T = Site} {U = Break} (λ (s : Site). record { rule = s.rule; image = n; at = s.at }) (shape_break f.items)) (in_each shape_break (n + 1) (contents (drop (n + 1) files)))
+    ≡ in_each shape_break 0 (contents files)
+unfolding in_each
 step files images n f kept lt at =
-    sym (ap (λ (fs : List (Vec ℕ Global)). each_file shape_break n (contents fs)) (drop_more files n f lt ∙ ap (λ (g : Vec ℕ Global). g ∷ drop (n + 1) files) (sym at))) ∙ kept.rest
+    sym (ap (λ (fs : List (Vec ℕ Global)). in_each shape_break n (contents fs)) (drop_more files n f lt ∙ ap (λ (g : Vec ℕ Global). g ∷ drop (n + 1) files) (sym at))) ∙ kept.rest
 
 pub accepted_start : (files : List (Vec ℕ Global)) (images : List Img) → images ≡ [] → AreAccepted files images 0
 accepted_start files images none = record { images_are = none; rest = refl }
@@ -47,21 +47,21 @@ accepted_more files images images' n f bytes image kept lt at same none image_is
           ∙ (sym (ap images_of (map-append (λ (g : Vec ℕ Global). g.items) (take n files) (f ∷ [])))
           ∙ sym (ap (λ (fs : List (Vec ℕ Global)). images_of (contents fs)) more))));
       rest =
-          sym (ap (λ (o : Option Site). option_or {T = Break} (option_map {T = Site} {U = Break} (λ (s : Site). record { rule = s.rule; image = n; at = s.at }) o) (each_file shape_break (n + 1) (contents (drop (n + 1) files)))) unbroken)
+          sym (ap (λ (o : Option Site). option_or {T = Break} (option_map {T = Site} {U = Break} (λ (s : Site). record { rule = s.rule; image = n; at = s.at }) o) (in_each shape_break (n + 1) (contents (drop (n + 1) files)))) unbroken)
           ∙ step files images n f kept lt at;
     }
 
 pub accepted_images : (files : List (Vec ℕ Global)) (images : List Img) (n : ℕ) → AreAccepted files images n → length files ≤ n → images ≡ images_of (contents files)
 accepted_images files images n kept all = kept.images_are ∙ ap (λ (fs : List (Vec ℕ Global)). images_of (contents fs)) (take_all n files all)
 
-pub accepted_none : (files : List (Vec ℕ Global)) (images : List Img) (n : ℕ) → AreAccepted files images n → length files ≤ n → each_file shape_break 0 (contents files) ≡ None
-unfolding each_file
-accepted_none files images n kept all = sym kept.rest ∙ ap (λ (fs : List (Vec ℕ Global)). each_file shape_break n (contents fs)) (drop_all n files all)
+pub accepted_none : (files : List (Vec ℕ Global)) (images : List Img) (n : ℕ) → AreAccepted files images n → length files ≤ n → in_each shape_break 0 (contents files) ≡ None
+unfolding in_each
+accepted_none files images n kept all = sym kept.rest ∙ ap (λ (fs : List (Vec ℕ Global)). in_each shape_break n (contents fs)) (drop_all n files all)
 
 pub refused : (files : List (Vec ℕ Global)) (images : List Img) (n : ℕ) (f : Vec ℕ Global) (bytes : List ℕ) (fault : Fault) (answer : SetFault) → AreAccepted files images n → n < length files → f ≡ get_or files n f → bytes ≡ f.items
-    → IsRefusal (shape_break bytes) fault → answer ≡ set_fault n fault → IsSetRefusal (each_file shape_break 0 (contents files)) answer
+    → IsRefusal (shape_break bytes) fault → answer ≡ set_fault n fault → IsSetRefusal (in_each shape_break 0 (contents files)) answer
 refused files images n f bytes (Broken site) answer kept lt at same found is =
-    subst (λ (a : SetFault). IsSetRefusal (each_file shape_break 0 (contents files)) a) (sym is)
+    subst (λ (a : SetFault). IsSetRefusal (in_each shape_break 0 (contents files)) a) (sym is)
     (sym (step files images n f kept lt at)
-    ∙ ap (λ (o : Option Site). option_or {T = Break} (option_map {T = Site} {U = Break} (λ (s : Site). record { rule = s.rule; image = n; at = s.at }) o) (each_file shape_break (n + 1) (contents (drop (n + 1) files)))) (ap shape_break (sym same) ∙ found))
-refused files images n f bytes Memory answer kept lt at same found is = subst (λ (a : SetFault). IsSetRefusal (each_file shape_break 0 (contents files)) a) (sym is) tt
+    ∙ ap (λ (o : Option Site). option_or {T = Break} (option_map {T = Site} {U = Break} (λ (s : Site). record { rule = s.rule; image = n; at = s.at }) o) (in_each shape_break (n + 1) (contents (drop (n + 1) files)))) (ap shape_break (sym same) ∙ found))
+refused files images n f bytes Memory answer kept lt at same found is = subst (λ (a : SetFault). IsSetRefusal (in_each shape_break 0 (contents files)) a) (sym is) tt

@@ -9,7 +9,7 @@ use Rattle.macho_image.specs.Records.{Img}
 use Rattle.macho_image.specs.Macho.{image_of}
 use Rattle.macho_image.specs.Breaks.{image_break, broken, first_break, IsSound}
 use Rattle.macho_image.proofs.Unbroken.{or_none, image_sound}
-use Rattle.cache_build.specs.Breaks.{is_universal, shape_break, each_file, images_of}
+use Rattle.cache_build.specs.Breaks.{is_universal, shape_break, in_each, images_of}
 use Rattle.cache_build.proofs.AcceptLaws.{not_yet_of}
 
 pub unbroken_shape : (file : List ℕ) → shape_break file ≡ None → image_break Standalone file 0 ≡ None
@@ -28,15 +28,15 @@ first_none k None rest none = (refl, none)
 first_none k (Some s) rest some = absurd (cc)
 
 -- each file of a set that breaks no rule of the first phase breaks none by itself
-pub each_none : (n : ℕ) (files : List (List ℕ)) (k : ℕ) (f : List ℕ) → each_file shape_break n files ≡ None → k < length files → f ≡ get_or files k f → shape_break f ≡ None
-unfolding each_file
+pub each_none : (n : ℕ) (files : List (List ℕ)) (k : ℕ) (f : List ℕ) → in_each shape_break n files ≡ None → k < length files → f ≡ get_or files k f → shape_break f ≡ None
+unfolding in_each
 each_none n [] k f none lt at = absurd (omega arith)
-each_none n (g ∷ gs) zero f none lt at = ap shape_break at ∙ (first_none n (shape_break g) (each_file shape_break (n + 1) gs) none).0
-each_none n (g ∷ gs) (suc k) f none lt at = each_none (n + 1) gs k f (first_none n (shape_break g) (each_file shape_break (n + 1) gs) none).1 (omega arith) at
+each_none n (g ∷ gs) zero f none lt at = ap shape_break at ∙ (first_none n (shape_break g) (in_each shape_break (n + 1) gs) none).0
+each_none n (g ∷ gs) (suc k) f none lt at = each_none (n + 1) gs k f (first_none n (shape_break g) (in_each shape_break (n + 1) gs) none).1 (omega arith) at
 
 -- so each image is sound
-pub sound_images : (n : ℕ) (files : List (List ℕ)) → each_file shape_break n files ≡ None → (k : ℕ) (d : Img) → k < length (images_of files) → IsSound (get_or (images_of files) k d)
-unfolding each_file
+pub sound_images : (n : ℕ) (files : List (List ℕ)) → in_each shape_break n files ≡ None → (k : ℕ) (d : Img) → k < length (images_of files) → IsSound (get_or (images_of files) k d)
+unfolding in_each
 sound_images n [] none k d lt = absurd (omega arith)
-sound_images n (g ∷ gs) none zero d lt = file_sound g (first_none n (shape_break g) (each_file shape_break (n + 1) gs) none).0
-sound_images n (g ∷ gs) none (suc k) d lt = sound_images (n + 1) gs (first_none n (shape_break g) (each_file shape_break (n + 1) gs) none).1 k d (omega arith)
+sound_images n (g ∷ gs) none zero d lt = file_sound g (first_none n (shape_break g) (in_each shape_break (n + 1) gs) none).0
+sound_images n (g ∷ gs) none (suc k) d lt = sound_images (n + 1) gs (first_none n (shape_break g) (in_each shape_break (n + 1) gs) none).1 k d (omega arith)

@@ -1,6 +1,6 @@
 -- A cache corresponds to its files wherever they are loaded, and at every slide that its header permits.
-use Rattle.std.specs.Prelude.{◌≤◌, ℕ, List, map}
-use Rattle.load_model.specs.Loading.{Linked, linked, IsPlacement}
+use Rattle.std.specs.Prelude.{◌≤◌, ℕ, List}
+use Rattle.load_model.specs.Loading.{Linked, linked_set, IsPlacement}
 use Rattle.cache_header.specs.Reading.{max_slide}
 use Rattle.load_model.specs.Mapped.{IsPermitted}
 use Rattle.load_model.specs.Corresponds.{Corresponds}
@@ -8,7 +8,7 @@ use Rattle.cache_build.specs.Breaks.{images_of}
 
 -- the files as loading sees them: the images that they spell, with what their streams spell
 abbrev pub set_of : List (List ℕ) → List Linked
-set_of files = map linked (images_of files)
+set_of files = linked_set (images_of files)
 
 -- The header permits at least the slides up to 0xBFE00000, which leaves room for 512 MiB of cache.
 pub record CorrespondsAlways (files : List (List ℕ)) (cache : List ℕ) : Type 0 where

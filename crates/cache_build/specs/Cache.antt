@@ -2,17 +2,21 @@
 use Rattle.std.specs.Prelude.{ℕ, zero, suc, List, [], ◌∷◌, ◌++◌, drop, length, Option, Some, None, slice_get, slice_index_or}
 use Rattle.dsc_base.specs.Region.{paged, padded}
 use Rattle.dsc_base.specs.declared.fault.Span.{Span}
+use Rattle.dsc_base.specs.declared.edits.Edit.{Edit}
 use Rattle.macho_image.specs.Records.{Seg, Img}
 use Rattle.macho_edit.specs.declared.spots.LinkSpots.{LinkSpots}
 use Rattle.macho_edit.specs.Cached.{cached_bytes}
 use Rattle.cache_header.specs.Spelling.{head_bytes}
 use Rattle.cache_layout.specs.Places.{moved_to, numbered}
 use Rattle.cache_layout.specs.Layouts.{Laid, layout_of}
-use Rattle.cache_layout.specs.Parts.{joined}
+use Rattle.cache_layout.specs.declared.mapping.Mapping.TheVariants.{Text, Writable, Fixed}
+use Rattle.cache_layout.specs.Parts.{mapping_part}
 use Rattle.slide_chain.specs.Info.{info_bytes}
 use Rattle.slide_chain.specs.Making.{info_of}
+use Rattle.load_model.specs.Linking.{places, linked_data}
 use Rattle.cache_build.specs.Places.{slide_size, linkedit_place, linkedit_size}
 use Rattle.cache_build.specs.Head.{head_of}
+use Rattle.cache_build.specs.Pointers.{pointers_of}
 
 -- a stream or table that an image doesn't have
 abbrev pub no_spot : Span
@@ -65,17 +69,26 @@ all_pages headers images k = image_pages (slice_index_or headers k []) (slice_ge
 abbrev pub headers_of : Laid → List Img → List (List ℕ)
 headers_of l images = numbered (header_of l) images
 
--- slide information of data without words
-abbrev pub slide_bytes : Laid → List ℕ
-slide_bytes l = info_bytes (info_of 16 l.writable.len [])
+-- slide information of data with pointers, for deltas of 16 bits
+abbrev pub slide_bytes : Laid → List Edit → List ℕ
+slide_bytes l pointers = info_bytes (info_of 16 l.writable.len (places pointers))
 
 -- slide information and the merged linkedit, each in whole pages
-abbrev pub tail_of : Laid → List ℕ
-tail_of l = padded (paged (slide_size l)) (slide_bytes l) ++ padded (paged linkedit_size) (0 ∷ [])
+abbrev pub tail_of : Laid → List Edit → List ℕ
+tail_of l pointers = padded (paged (slide_size l)) (slide_bytes l pointers) ++ padded (paged linkedit_size) (0 ∷ [])
 
--- the head, the segments by mapping, image and command, and the rest
+-- the head, the segments of each mapping, and the rest
+abbrev pub parts_joined : List ℕ → List ℕ → List ℕ → List ℕ → List ℕ → List ℕ
+parts_joined head text writable fixed rest = head ++ (text ++ (writable ++ (fixed ++ rest)))
+
+-- the cache where the images have these bytes in their segments and these pointers in their data
+abbrev pub cache_with : Laid → List ℕ → (ℕ → ℕ → List ℕ) → List Img → List Edit → List ℕ
+cache_with l head pages images pointers =
+    parts_joined (padded l.text.at head) (mapping_part Text pages images) (linked_data pointers (mapping_part Writable pages images)) (mapping_part Fixed pages images) (tail_of l pointers)
+
+-- the segments stand by mapping, image and command; the data's pointers lead where they led in the files
 unfoldable pub cache_from : Laid → List Img → List ℕ
-cache_from l images = joined (padded l.text.at (head_bytes (head_of l images))) (all_pages (headers_of l images) images) images (tail_of l)
+cache_from l images = cache_with l (head_bytes (head_of l images)) (all_pages (headers_of l images) images) images (pointers_of l images)
 
 abbrev pub cache_of : List Img → List ℕ
 cache_of images = cache_from (layout_of images) images

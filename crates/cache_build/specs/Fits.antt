@@ -32,6 +32,11 @@ abbrev pub CanMoveAll : Laid → List Img → Type 0
 CanMoveAll l images =
     (k : ℕ) (image : Img) → k < length images → image ≡ slice_index_or images k image → CanMove image (slice_index_or l.moves k []) (spots_at (linkedit_place l))
 
+-- each image has a move for each segment
+pub record HasMoves (l : Laid) (is : List Img) : Type 0 where
+  pub images : length l.moves ≡ length is
+  pub segments : (k : ℕ) (image : Img) → k < length is → image ≡ slice_index_or is k image → length (slice_index_or l.moves k []) ≡ length image.segments
+
 -- a layout and its images make a cache of at most 512 MiB
 pub record CanAssemble (l : Laid) (is : List Img) : Type 0 where
   pub few : length is ≤ 4096

@@ -5,3 +5,5 @@ pub mod Cache
 pub mod Fits
 pub mod Head
 pub mod Places
+pub mod Pointers
+pub mod Setting

@@ -3,7 +3,7 @@ ghost use Rattle.std.specs.Prelude.{◌≡◌, ◌≤◌, None, is_none, unwrap_
 ghost use Rattle.macho_image.specs.Macho.{image_of, loads_of, segment_loads, commands_of, command_where, is_split_info};
 ghost use Rattle.macho_image.specs.Refuses.{IsRefusal};
 ghost use Rattle.macho_image.specs.Rules.{breaks_command_shape};
-ghost use Rattle.cache_build.specs.Breaks.{breaks_not_yet, shape_break, each_file, images_of};
+ghost use Rattle.cache_build.specs.Breaks.{breaks_not_yet, shape_break, in_each, images_of};
 ghost use Rattle.cache_build.specs.Built.{contents, set_fault, IsSetRefusal};
 
 use crate::not_yet::{begins_universal, unbuilt_command};
@@ -52,7 +52,7 @@ fn not_built(at: u64) -> Fault
     })
 }
 
-fn of_image(fault: Fault, image: u32) -> SetFault
+pub fn of_image(fault: Fault, image: u32) -> SetFault
     ensures { result ≡ set_fault image fault }
 {
     match fault {
@@ -69,8 +69,8 @@ fn of_image(fault: Fault, image: u32) -> SetFault
 pub fn accept_all<'a>(alloc: Global, files: &'a [Vec<u8>]) -> Result<Vec<Image<'a>>, SetFault>
     requires { length files.now ≤ 4096 }
     ensures images { IfOk result (λ v. v.items ≡ images_of (contents files.entry.now)) }
-    ensures unbroken { OnOk result (each_file shape_break 0 (contents files.entry.now) ≡ None) }
-    ensures cause { IfErr result (IsSetRefusal (each_file shape_break 0 (contents files.entry.now))) }
+    ensures unbroken { OnOk result (in_each shape_break 0 (contents files.entry.now) ≡ None) }
+    ensures cause { IfErr result (IsSetRefusal (in_each shape_break 0 (contents files.entry.now))) }
 {
     let mut images = Vec::with_capacity(alloc, files.len())?;
     for (number, file) in files.iter().enumerate() {

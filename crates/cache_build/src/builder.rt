@@ -1,5 +1,5 @@
 // Building a cache of a set of dylibs.
-ghost use Rattle.std.specs.Prelude.{◌≡◌, ◌≤◌, None, length, All, IfOk, IfErr, OnOk};
+ghost use Rattle.std.specs.Prelude.{◌≡◌, ◌≤◌, ◌<◌, None, length, All, IfOk, IfErr, OnOk};
 ghost use Rattle.cache_build.specs.Breaks.{set_break, too_large_at};
 ghost use Rattle.cache_build.specs.Built.{contents, IsSetRefusal, built};
 ghost use Rattle.cache_build.specs.Always.{CorrespondsAlways};
@@ -8,6 +8,8 @@ use crate::accept::accept_all;
 use crate::assemble::assemble;
 use crate::duplicates::duplicate_name;
 use crate::frame::Frame;
+use crate::leading::first_stray;
+use crate::streams::read_streams;
 use cache_layout::lay_out;
 use dsc_base::{Break, Gate, Rule, SetFault};
 use std::alloc::Global;
@@ -39,6 +41,22 @@ fn too_large(span: u64) -> Option<Break>
     }
 }
 
+/// Does nothing: its contract tells what is true of each slice of bytes.
+fn are_bytes(bytes: &[u8])
+    ensures { All (λ b. b < 256) bytes.now }
+{
+    let _ = bytes;
+}
+
+/// The same of files.
+fn files_are_bytes(files: &[Vec<u8>])
+    ensures { All (λ f. All (λ b. b < 256) f) (contents files.now) }
+{
+    for file in files {
+        are_bytes(file);
+    }
+}
+
 /// The cache of the files, or the first rule that they break.
 pub fn build<R: Threads, G: Gate + Sync>(
     _rt: &R,
@@ -56,8 +74,13 @@ pub fn build<R: Threads, G: Gate + Sync>(
     ensures corresponds { set_break (contents files.now) ≡ None → CorrespondsAlways (contents files.now) (built (contents files.now)) }
     ensures cause { IfErr result (IsSetRefusal (set_break (contents files.now))) }
 {
+    files_are_bytes(files);
     let images = accept_all(alloc, files)?;
+    let streams = read_streams(alloc, &images)?;
     if let Some(found) = duplicate_name(alloc, &images)? {
+        return Err(SetFault::Broken(found));
+    }
+    if let Some(found) = first_stray(alloc, &images, &streams)? {
         return Err(SetFault::Broken(found));
     }
     let layout = lay_out(alloc, &images)?;
@@ -65,6 +88,6 @@ pub fn build<R: Threads, G: Gate + Sync>(
     if let Some(found) = too_large(frame.span) {
         return Err(SetFault::Broken(found));
     }
-    let cache = assemble(alloc, &images, &layout, &frame, gate)?;
+    let cache = assemble(alloc, &images, &streams, &layout, &frame, gate)?;
     Ok(cache)
 }

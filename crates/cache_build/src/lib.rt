@@ -8,7 +8,10 @@ mod duplicates;
 mod frame;
 mod head;
 mod headers;
+mod leading;
 mod not_yet;
+mod pointers;
 mod segments;
+mod streams;
 
 pub use builder::{Options, build};

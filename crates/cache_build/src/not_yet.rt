@@ -28,16 +28,12 @@ fn is_set(command: &[u8], at: usize) -> bool
     get_u32(command, at) != 0
 }
 
-/// Whether one of the five streams of dyld_info_command has bytes.
+/// Whether one of the streams of dyld_info_command besides the rebases has bytes.
 fn names_streams(command: &[u8]) -> bool
     requires { 48 ≤ length command.now }
     ensures { result ≡ names_streams command.now }
 {
-    is_set(command, 12)
-        || is_set(command, 20)
-        || is_set(command, 28)
-        || is_set(command, 36)
-        || is_set(command, 44)
+    is_set(command, 20) || is_set(command, 28) || is_set(command, 36) || is_set(command, 44)
 }
 
 /// Whether dysymtab_command names symbols or indirect symbols.

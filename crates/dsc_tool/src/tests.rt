@@ -1,4 +1,5 @@
 mod dylibs;
+mod pointers;
 mod refusals;
 
 use crate::{Status, run};
@@ -255,7 +256,7 @@ fn put_all(file: &mut [u8], numbers: &[(usize, u32)]) {
 fn other_files_are_refused(rt: HostRuntime) -> Result<(), Fail> {
     let alloc = rt.alloc();
     for (numbers, length, want) in REFUSED {
-        let mut file = data_dylib(alloc)?;
+        let mut file = data_dylib(alloc, 0x1000)?;
         put_all(&mut file, numbers);
         file.truncate(length);
         is_refused(&rt, alloc, file, want)?;
@@ -265,6 +266,10 @@ fn other_files_are_refused(rt: HostRuntime) -> Result<(), Fail> {
         put_all(&mut file, numbers);
         is_refused(&rt, alloc, file, want)?;
     }
+    let mut crossing = data_dylib(alloc, 0x2000)?;
+    put_all(&mut crossing, &AT_THE_EDGE);
+    put_u32(&mut crossing, 0x3000, 0x1FFC_2111);
+    is_refused(&rt, alloc, crossing, "28 RebaseCrossesPage image 0 at 0x4")?;
     let large = large_dylib(alloc, 0x2000_1000)?;
     is_refused(&rt, alloc, large, "141 SpanTooLarge image 0 at 0x20003000")?;
     let large = large_dylib(alloc, 0x1FFF_E000)?;
@@ -275,6 +280,9 @@ fn other_files_are_refused(rt: HostRuntime) -> Result<(), Fail> {
         "171 LinkeditTooLarge image 0 at 0x20000000",
     )
 }
+
+// In the dylib with two pages of data: six bytes of rebases, of which the last is a word at the end of the first page.
+const AT_THE_EDGE: [(usize, u32); 3] = [(0x1CC, 6), (0x3000, 0x1FF8_2111), (0x3004, 0x51)];
 
 // A file alone is refused with this text, and nothing is put.
 fn is_refused<R: Threads + Abort>(
@@ -295,7 +303,7 @@ fn is_refused<R: Threads + Abort>(
 
 // A dylib with data and no rebase, whose install name begins with these four bytes.
 fn still_dylib(alloc: Global, name: u32) -> Result<Vec<u8>, NoMemory> {
-    let mut file = data_dylib(alloc)?;
+    let mut file = data_dylib(alloc, 0x1000)?;
     put_all(&mut file, &[(0x1CC, 0), (0x1B0, name)]);
     Ok(file)
 }

@@ -1,8 +1,9 @@
 -- What loading leaves of an image's segments, where no address is in two of them.
-use Rattle.std.proofs.Common.{◌≡◌, ◌≤◌, ◌<◌, ℕ, zero, suc, ◌+◌, ◌-◌, ◌^◌, Some, List, [], ◌∷◌, length, get_or, replicate, sym, ap, ◌∙◌, subst, arith, inl, inr, length-append}
+use Rattle.std.proofs.Common.{◌≡◌, ◌≤◌, ◌<◌, ℕ, zero, suc, ◌+◌, ◌-◌, ◌^◌, Some, List, [], ◌∷◌, length, get_or, replicate, refl, sym, ap, ◌∙◌, subst, arith, inl, inr, length-append}
 use Rattle.std.specs.Prelude.{slice_get}
 use Rattle.std.proofs.lemmas.Bool.{cases_lt}
-use Rattle.std.proofs.lemmas.List.{length-replicate}
+use Rattle.std.proofs.Math.ListN.{get_or-append}
+use Rattle.std.proofs.lemmas.List.{length-replicate, get_or-append_right, get_or_past}
 use Rattle.macho_image.specs.Records.{Seg}
 use Rattle.load_model.specs.Memory.{Cells, wrap, above, with_bytes}
 use Rattle.load_model.specs.Loading.{in_memory, segments_at}
@@ -29,6 +30,21 @@ AreApart (s ∷ ss) = IsLow s × AreApartFrom s ss × AreApart ss
 pub length-in_memory : (s : Seg) → IsLow s → length (in_memory s) ≡ s.vmsize
 length-in_memory s low =
     length-append s.bytes (replicate (s.vmsize - s.filesize) 0) ∙ omega (arith, low.bytes, low.within, length-replicate {A = ℕ} (s.vmsize - s.filesize) 0)
+
+zero_byte : (n d : ℕ) → ◌≡◌ {A = ℕ} (get_or (replicate n 0) d 0) 0
+zero_byte zero d = refl
+zero_byte (suc n) zero = refl
+zero_byte (suc n) (suc d) = zero_byte n d
+
+-- behind the file's bytes there are zeros, as there are in no list
+pub in_memory-byte : (s : Seg) (d : ℕ) → get_or (in_memory s) d 0 ≡ get_or s.bytes d 0
+in_memory-byte s d =
+    elim (cases_lt d (length s.bytes)) [
+      | inl within ↦ get_or-append s.bytes (replicate (s.vmsize - s.filesize) 0) 0 d within
+      | inr behind ↦
+          get_or-append_right s.bytes (replicate (s.vmsize - s.filesize) 0) (length s.bytes) d 0 refl behind
+          ∙ (zero_byte (s.vmsize - s.filesize) (d - length s.bytes) ∙ sym (get_or_past s.bytes d 0 behind))
+    ]
 
 apart_from : (s t : Seg) (g : ℕ) (ts : List Seg) → AreApartFrom s ts → slice_get ts g ≡ Some t → KeepApart s t
 apart_from s t g [] apart got = absurd (cc)

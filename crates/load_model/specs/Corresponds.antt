@@ -1,13 +1,15 @@
 -- A mapped cache corresponds to files that are loaded separately.
-use Rattle.std.specs.Prelude.{◌≡◌, ◌<◌, ℕ, ◌+◌, ◌-◌, ◌*◌, ◌^◌, nat_lt, nat_eq, if◌then◌else◌, List, [], ◌∷◌, ◌++◌, length, filter, not, Option, Some, None, slice_get, ◌⊎◌}
+use Rattle.std.specs.Prelude.{◌≡◌, ◌<◌, ℕ, ◌+◌, ◌-◌, ◌*◌, ◌^◌, nat_eq, if◌then◌else◌, List, [], ◌∷◌, ◌++◌, length, filter, not, Option, Some, None, slice_get, ◌⊎◌}
 use Rattle.std.specs.List.{flat_map}
 use Rattle.dsc_base.specs.Numbers.{big_number}
 use Rattle.macho_image.specs.Records.{Seg, Img}
 use Rattle.macho_image.specs.Rules.{is_linkedit_segment}
 use Rattle.macho_image.specs.declared.section.Section.{Section}
+use Rattle.word_places.specs.Segments.{inside}
+use Rattle.word_places.specs.declared.segment_index.Inside.{Inside}
 use Rattle.load_model.specs.Memory.{Cells, wrap, above, HasNumber}
 use Rattle.load_model.specs.Words.{Word, Starts, LeadsTo, width_of, Exported, ExportTarget, Offset, Absolute, Reexport}
-use Rattle.load_model.specs.Loading.{Linked, linked, loaded, loaded_starts}
+use Rattle.load_model.specs.Loading.{Linked, linked, start_of, loaded, loaded_starts}
 use Rattle.cache_header.specs.Reading.{image_count, image_path}
 use Rattle.load_model.specs.Mapped.{mapped, cached_image}
 
@@ -41,18 +43,10 @@ header_address image = first_start image.segments
     first_start [] = 0
     first_start (s ∷ ss) = s.vmaddr
 
--- the segment that contains an address, and how far the address lies above its start
-abbrev pub place_from : ℕ → List Seg → ℕ → Option (ℕ × ℕ)
-place_from g [] x = None
-place_from g (s ∷ ss) x = if nat_lt (above s.vmaddr x) s.vmsize then Some (g, above s.vmaddr x) else place_from (g + 1) ss x
-
-abbrev pub place_in : Img → ℕ → Option (ℕ × ℕ)
-place_in image x = place_from 0 image.segments x
-
 -- two exports lead to the same: the same place, the same number, or the same symbol of the same dependency
 abbrev pub SameTarget : Img → Img → ExportTarget → ExportTarget → Type 0
 SameTarget file cached (Offset o) (Offset p) =
-    (place : ℕ × ℕ) × (place_in file (wrap (header_address file + o)) ≡ Some place) × (place_in cached (wrap (header_address cached + p)) ≡ Some place)
+    (place : Inside) × (inside file.segments (wrap (header_address file + o)) ≡ Some place) × (inside cached.segments (wrap (header_address cached + p)) ≡ Some place)
 SameTarget file cached (Absolute v) (Absolute w) = v ≡ w
 SameTarget file cached (Reexport ordinal name) (Reexport other text) = (ordinal ≡ other) × (name ≡ text)
 SameTarget file cached _ _ = ⊥
@@ -84,15 +78,7 @@ pub record Leads (cells : Cells) (starts : Starts) (location header : ℕ) (w : 
 
 -- Where each segment of a cached set starts once the cache is mapped.
 abbrev pub mapped_starts : (ℕ → Option Img) → ℕ → Starts
-mapped_starts cached slide k g = wrap (start_of (cached k) + slide)
-  where
-    start_in : Option Seg → ℕ
-    start_in None = 0
-    start_in (Some s) = s.vmaddr
-
-    start_of : Option Img → ℕ
-    start_of None = 0
-    start_of (Some image) = start_in (slice_get image.segments g)
+mapped_starts cached slide k g = wrap (start_of (cached k) g + slide)
 
 -- One file and its cached image, in memory: the file loaded at one slide, the cache mapped at another.
 pub record ImageCorresponds (file : Linked) (cached : Linked) (loaded_cells mapped_cells : Cells) (loaded_at mapped_at : Starts) (load_slide map_slide : ℕ) : Type 0 where
@@ -114,5 +100,5 @@ pub record Corresponds (set : List Linked) (slides : ℕ → ℕ) (cache : List 
   pub paths : (k : ℕ) (file : Linked) → slice_get set k ≡ Some file → image_path cache k ≡ file.image.install_name
   pub images : (k : ℕ) (file : Linked) → slice_get set k ≡ Some file
       → (image : Img) × (cached_image cache k ≡ Some image)
-      × ImageCorresponds file (linked image) (loaded set slides k file) (mapped cache slide)
+      × ImageCorresponds file (linked k image) (loaded set slides k file) (mapped cache slide)
       (loaded_starts set slides) (mapped_starts (cached_image cache) slide) (slides k) slide

@@ -1,5 +1,8 @@
 pub mod Corresponds
+pub mod Limits
+pub mod Linking
 pub mod Loading
 pub mod Mapped
 pub mod Memory
+pub mod Pointers
 pub mod Words

@@ -1,8 +1,11 @@
 -- Loading files separately: each image at a slide of its own, its pointers rebased and bound.
-use Rattle.std.specs.Prelude.{◌≡◌, ℕ, ◌+◌, ◌-◌, ◌*◌, List, [], ◌∷◌, ◌++◌, replicate, Option, Some, None, slice_get}
+use Rattle.std.specs.Prelude.{◌≡◌, ℕ, ◌+◌, ◌-◌, ◌*◌, List, [], ◌∷◌, ◌++◌, replicate, Option, Some, None, slice_get, map}
+use Rattle.std.specs.List.{enumerate_from}
 use Rattle.macho_image.specs.Records.{Seg, Img}
+use Rattle.word_places.specs.Order.{addresses_of}
 use Rattle.load_model.specs.Memory.{Cells, nowhere, wrap, with_bytes, with_number, number_from}
 use Rattle.load_model.specs.Words.{Target, Word, Starts, number_to, Exported}
+use Rattle.load_model.specs.Pointers.{rebases_in, pointer_word}
 
 -- a pointer that loading sets to a symbol: its address in the file, and what the symbol resolves to
 pub record Bound : Type 0 where
@@ -17,21 +20,36 @@ pub record Linked : Type 0 where
   pub words : List Word
   pub exports : List Exported
 
--- What the streams of an image spell. Images with streams are not accepted yet, so there is nothing.
-abbrev pub linked : Img → Linked
-linked image = record { image = image; rebases = []; bound = []; words = []; exports = [] }
+-- Image k of a set with what its rebase stream spells. Images with other streams are not accepted yet.
+abbrev pub linked : ℕ → Img → Linked
+linked k image = record {
+  image = image;
+  rebases = addresses_of (rebases_in image);
+  bound = [];
+  words = map (pointer_word k image) (rebases_in image);
+  exports = [];
+}
+
+-- the images of a set, by their numbers
+abbrev pub linked_set : List Img → List Linked
+linked_set images = map (λ p. linked p.0 p.1) (enumerate_from 0 images)
 
 -- one slide for each image, a multiple of the page size; the slides needn't keep the images apart
 abbrev pub IsPlacement : (ℕ → ℕ) → Type 0
 IsPlacement slides = (k : ℕ) → (pages : ℕ) × (slides k ≡ pages * 4096)
 
+-- where a segment starts, by its number; 0 where there is none
+abbrev pub start_in : Option Seg → ℕ
+start_in None = 0
+start_in (Some s) = s.vmaddr
+
+abbrev pub start_of : Option Img → ℕ → ℕ
+start_of None g = 0
+start_of (Some image) g = start_in (slice_get image.segments g)
+
 abbrev pub segment_start : Option Linked → ℕ → ℕ
 segment_start None g = 0
-segment_start (Some l) g = start_in (slice_get l.image.segments g)
-  where
-    start_in : Option Seg → ℕ
-    start_in None = 0
-    start_in (Some s) = s.vmaddr
+segment_start (Some l) g = start_of (Some l.image) g
 
 -- where each segment of a set starts once it is loaded
 abbrev pub loaded_starts : List Linked → (ℕ → ℕ) → Starts

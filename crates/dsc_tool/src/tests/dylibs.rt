@@ -1,5 +1,5 @@
 // Files that tests build from.
-ghost use Rattle.std.specs.Prelude.{◌≤◌};
+ghost use Rattle.std.specs.Prelude.{◌≤◌, ◌×◌};
 
 use dsc_base::{Field, NoMemory, spell_fields};
 use std::alloc::Global;
@@ -95,39 +95,50 @@ pub(super) fn plain_dylib(alloc: Global) -> Result<Vec<u8>, NoMemory> {
     file_of(alloc, &parts, 0x1040)
 }
 
-// A dylib with a data segment, one rebase in it, and no references.
-pub(super) fn data_dylib(alloc: Global) -> Result<Vec<u8>, NoMemory> {
-    let streams = [
+// LC_DYLD_INFO_ONLY with five bytes of rebases at a place of the file, and LC_SEGMENT_SPLIT_INFO behind them.
+fn stream_fields(at: u32) -> [Field; 9]
+    requires { at ≤ 0x4000_0000 }
+{
+    [
         Field::U32(0x8000_0022),
         Field::U32(48),
-        Field::U32(0x2000),
+        Field::U32(at),
         Field::U32(5),
         Field::Zeros(32),
         Field::U32(0x1E),
         Field::U32(16),
-        Field::U32(0x2008),
+        Field::U32(at + 8),
         Field::U32(2),
-    ];
+    ]
+}
+
+// One rebase at 0x10 of segment 1, and split-segment information without references.
+const LINKEDIT_FRONT: [Field; 2] = [Field::U64(0x5110_2111), Field::U16(0x7F)];
+
+// A dylib with a data segment of so many bytes, one rebase in it, and no references.
+pub(super) fn data_dylib(alloc: Global, size: u32) -> Result<Vec<u8>, NoMemory>
+    requires { (0x1000 ≤ size) × (size ≤ 0x10000) }
+{
+    let end = 0x1000 + size;
     let contents = [
         Field::Zeros(0x1010 - 0x200),
         Field::U64(0x1020),
-        Field::Zeros(0x2000 - 0x1018),
-        Field::U64(0x5110_2111),
-        Field::U16(0x7F),
+        Field::Zeros(end - 0x1018),
     ];
     let parts: [&[Field]; 8] = [
         &header_fields(6, 0x1E0),
         &segment_fields(TEXT, 0, 0x1000, 0x1000, 5, 1),
         &section_fields(b"__text\0\0\0\0\0\0\0\0\0\0", TEXT, 0x400, 0x800),
-        &segment_fields(DATA, 0x1000, 0x1000, 0x1000, 3, 1),
-        &section_fields(b"__data\0\0\0\0\0\0\0\0\0\0", DATA, 0x1000, 0x1000),
-        &segment_fields(LINKEDIT, 0x2000, 0x1000, 0x40, 1, 0),
+        &segment_fields(DATA, 0x1000, u64::from(size), u64::from(size), 3, 1),
+        &section_fields(b"__data\0\0\0\0\0\0\0\0\0\0", DATA, 0x1000, u64::from(size)),
+        &segment_fields(LINKEDIT, u64::from(end), 0x1000, 0x40, 1, 0),
         &INSTALL_NAME,
-        &streams,
+        &stream_fields(end),
     ];
     let mut bytes = file_of(alloc, &parts, 0x200)?;
     bytes.extend_from_slice(&spell_fields(alloc, &contents)?)?;
-    bytes.resize(0x2040, 0)?;
+    bytes.extend_from_slice(&spell_fields(alloc, &LINKEDIT_FRONT)?)?;
+    bytes.resize(end as usize + 0x40, 0)?;
     Ok(bytes)
 }
 
@@ -171,14 +182,8 @@ pub(super) fn large_dylib(alloc: Global, data_size: u64) -> Result<Vec<u8>, NoMe
         Field::U32(0),
         Field::U32(0),
     ];
-    let split = [
-        Field::U32(0x1E),
-        Field::U32(16),
-        Field::U32(0x2008),
-        Field::U32(2),
-    ];
     let parts: [&[Field]; 8] = [
-        &header_fields(5, 0x200),
+        &header_fields(6, 0x230),
         &segment_fields(TEXT, 0, 0x1000, 0x1000, 5, 1),
         &section_fields(b"__text\0\0\0\0\0\0\0\0\0\0", TEXT, 0x400, 0x800),
         &data,
@@ -188,9 +193,9 @@ pub(super) fn large_dylib(alloc: Global, data_size: u64) -> Result<Vec<u8>, NoMe
         &INSTALL_NAME,
     ];
     let mut bytes = file_of(alloc, &parts, 0x210)?;
-    bytes.extend_from_slice(&spell_fields(alloc, &split)?)?;
-    bytes.resize(0x2008, 0)?;
-    bytes.push(0x7F)?;
+    bytes.extend_from_slice(&spell_fields(alloc, &stream_fields(0x2000))?)?;
+    bytes.resize(0x2000, 0)?;
+    bytes.extend_from_slice(&spell_fields(alloc, &LINKEDIT_FRONT)?)?;
     bytes.resize(0x2040, 0)?;
     Ok(bytes)
 }

@@ -12,8 +12,7 @@ const SECOND_NAME: [(usize, u32); 7] = [
 ];
 
 // With how many bytes of the file there are.
-pub(super) const REFUSED: [(&[(usize, u32)], usize, &str); 8] = [
-    (&[], 0x2040, "190 NotYet image 0 at 0x1c0"),
+pub(super) const REFUSED: [(&[(usize, u32)], usize, &str); 10] = [
     (&[], 0x100, "6 CommandShape image 0 at 0x14"),
     (&[], 0x200, "10 SegmentShape image 0 at 0x20"),
     (&[], 0x2003, "10 SegmentShape image 0 at 0x150"),
@@ -29,6 +28,29 @@ pub(super) const REFUSED: [(&[(usize, u32)], usize, &str); 8] = [
         "7 UnknownCommand image 0 at 0x1f0",
     ),
     (&SECOND_NAME, 0x2040, "8 CommandTwice image 0 at 0x200"),
+    // a rebase stream that records 512 words and then one past the segment's end
+    (
+        &[
+            (0x1C8, 0x2010),
+            (0x1CC, 10),
+            (0x2010, 0x6000_2111),
+            (0x2014, 0x8080_8080),
+            (0x2018, 0x2080),
+        ],
+        0x2040,
+        "24 RebaseOutsideSegment image 0 at 0x3",
+    ),
+    // a pointer into `__LINKEDIT`, and one behind all segments
+    (
+        &[(0x1010, 0x2FFF)],
+        0x2040,
+        "135 PointsIntoLinkedit image 0 at 0x0",
+    ),
+    (
+        &[(0x1010, 0x3000)],
+        0x2040,
+        "136 RebaseOutside image 0 at 0x0",
+    ),
 ];
 
 // What isn't built yet, in the dylib whose rebase stream is emptied.

@@ -1,0 +1,51 @@
+-- The pointers of a set in the data of its cache: where each stands there, and what it becomes.
+use Rattle.std.specs.Prelude.{ℕ, ◌+◌, ◌-◌, List, map, filter, nat_eq, Option, Some, None, slice_index_or}
+use Rattle.std.specs.List.{flat_map, enumerate_from}
+use Rattle.dsc_base.specs.declared.edits.Edit.{Edit}
+use Rattle.macho_image.specs.Records.{Seg, Img}
+use Rattle.macho_image.specs.declared.place.Location.{Location}
+use Rattle.macho_image.specs.declared.place.Moved.{Moved}
+use Rattle.word_places.specs.declared.segment_index.Inside.{Inside}
+use Rattle.cache_layout.specs.Layouts.{Laid}
+use Rattle.cache_layout.specs.Apart.{move_at}
+use Rattle.load_model.specs.Memory.{wrap}
+use Rattle.load_model.specs.Words.{Starts, number_to}
+use Rattle.load_model.specs.Pointers.{rebases_in, pointer_target}
+
+-- where each segment of a set starts in the cache
+abbrev pub cached_starts : Laid → Starts
+cached_starts l k g = (move_at l k g).address
+
+-- where segment g of image k begins in the data
+abbrev pub data_start : Laid → ℕ → ℕ → ℕ
+data_start l k g = (move_at l k g).file - l.writable.at
+
+-- a word of a segment that begins at a place, set to a number
+abbrev pub word_edit : ℕ → Seg → Location → ℕ → Edit
+word_edit start s w number = record { at = start + (w.address - s.vmaddr); width = 8; value = number }
+
+-- a pointer of image k in segment g becomes the number that leads to its target in the cache
+abbrev pub pointer_edit : Laid → ℕ → Img → ℕ → Seg → Location → Edit
+pointer_edit l k image g s w = word_edit (data_start l k g) s w (number_to (cached_starts l) (pointer_target k image w))
+
+-- The same by the moves of the segments of its image: a pointer that leads into one of them becomes the number of its place there.
+abbrev pub move_or : List Moved → ℕ → Moved
+move_or moves g = slice_index_or moves g (record { address = 0; file = 0 })
+
+abbrev pub moved_number : List Moved → Option Inside → ℕ → ℕ
+moved_number moves None value = wrap value
+moved_number moves (Some p) value = wrap ((move_or moves p.segment).address + p.distance)
+
+-- the pointers in a segment, of those of its image
+abbrev pub pointers_inside : ℕ → List Location → List Location
+pointers_inside g ws = filter (λ w. nat_eq w.segment g) ws
+
+abbrev pub segment_pointers : Laid → ℕ → Img → ℕ → Seg → List Edit
+segment_pointers l k image g s = map (pointer_edit l k image g s) (pointers_inside g (rebases_in image))
+
+abbrev pub image_pointers : Laid → ℕ → Img → List Edit
+image_pointers l k image = flat_map (λ p. segment_pointers l k image p.0 p.1) (enumerate_from 0 image.segments)
+
+-- all pointers, by image, segment and address, which is the order of the data
+unfoldable pub pointers_of : Laid → List Img → List Edit
+pointers_of l images = flat_map (λ p. image_pointers l p.0 p.1) (enumerate_from 0 images)
