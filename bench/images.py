@@ -17,15 +17,6 @@ def dylib(number, size):
     return plain.dylib(b"/image%04d.dylib" % number, size)
 
 
-def make(folder, count, size):
-    paths = []
-    for number in range(count):
-        paths.append(os.path.join(folder, f"{count}-{number}"))
-        with open(paths[-1], "wb") as file:
-            file.write(dylib(number, size))
-    return paths
-
-
 def main():
     if not os.path.exists(plain.PROGRAM):
         sys.exit("no program yet: run ./dsc once")
@@ -33,10 +24,10 @@ def main():
     with tempfile.TemporaryDirectory(dir=folder or os.path.dirname(os.path.abspath(__file__))) as place:
         cache = os.path.join(place, "cache")
         for count in (1, 64, 1024):
-            paths = make(place, count, 60 << 10)
+            paths = plain.write_set(place, count, lambda number: dylib(number, 60 << 10))
             seconds, _ = plain.median([plain.PROGRAM, "build", cache, *paths], cache)
             print(f"{count} images of 60 KiB: {1000 * seconds / count:.3f} ms an image")
-        paths = make(place, 64, 4 << 20)
+        paths = plain.write_set(place, 64, lambda number: dylib(number, 4 << 20))
         whole = sum(map(os.path.getsize, paths))
         copied, _ = plain.median(["sh", "-c", 'out=$1; shift; exec cat "$@" > "$out"', "sh", cache, *paths], cache)
         built, memory = plain.median([plain.PROGRAM, "build", cache, *paths], cache)

@@ -38,6 +38,16 @@ def dylib(name=b"/plain.dylib", text=TEXT):
     return (header.ljust(0x1000, b"\0") + noise * (text // len(noise)))[:text] + bytes(0x40)
 
 
+def write_set(folder, count, make):
+    """Writes so many files, each made from its number, and gives their paths."""
+    paths = []
+    for number in range(count):
+        paths.append(os.path.join(folder, f"{count}-{number}"))
+        with open(paths[-1], "wb") as file:
+            file.write(make(number))
+    return paths
+
+
 def timed(command, out):
     """Seconds of one run, and the peak memory of its process in bytes."""
     if os.path.exists(out):

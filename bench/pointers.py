@@ -41,15 +41,6 @@ def dylib(name):
     return header.ljust(TEXT, b"\0") + words + (stream.ljust(8, b"\0") + b"\x7f\x00").ljust(0x40, b"\0")
 
 
-def make(folder, count):
-    paths = []
-    for number in range(count):
-        paths.append(os.path.join(folder, f"{count}-{number}"))
-        with open(paths[-1], "wb") as file:
-            file.write(dylib(b"/pointers%04d.dylib" % number))
-    return paths
-
-
 def main():
     if not os.path.exists(plain.PROGRAM):
         sys.exit("no program yet: run ./dsc once")
@@ -58,7 +49,7 @@ def main():
         cache = os.path.join(place, "cache")
         each = []
         for count in (64, 1024):
-            paths = make(place, count)
+            paths = plain.write_set(place, count, lambda number: dylib(b"/pointers%04d.dylib" % number))
             seconds, memory = plain.median([plain.PROGRAM, "build", cache, *paths], cache)
             each.append(seconds / count / POINTERS)
             print(f"{count} images of {POINTERS} pointers: {1e9 * each[-1]:.1f} ns a pointer")

@@ -15,6 +15,7 @@ use Rattle.macho_image.specs.Macho.{header_in, image_of, image_from}
 use Rattle.macho_image.specs.Rules.{is_linkedit_segment, breaks_wrong_kind}
 use Rattle.macho_image.specs.Breaks.{IsSound, form_of}
 use Rattle.macho_image.proofs.Unbroken.{image_unbroken, kind_unbroken, form_is}
+use Rattle.word_places.specs.Places.{IsWord}
 use Rattle.macho_edit.specs.MovedImage.{moved_image}
 use Rattle.cache_layout.specs.Layouts.{Laid, layout_of, layout_break}
 use Rattle.cache_layout.specs.Apart.{IsSegment, AreInTurn, range_in, move_at}
@@ -43,14 +44,14 @@ use Rattle.cache_build.proofs.ByteLaws.{segment_bytes}
 use Rattle.cache_build.proofs.HeadLaws.{no_image}
 use Rattle.cache_build.proofs.HeadFacts.{IsReady, assembles}
 use Rattle.cache_build.proofs.SectionLaws.{IsLoadedByte, loaded_section_byte, sound_apart, IsInside, section_inside}
-use Rattle.cache_build.proofs.MovedLaws.{IsMovedSection, moved_shape, moved_section_at}
+use Rattle.cache_build.proofs.MovedLaws.{IsMovedSection, moved_shape, moved_section, moved_section_at}
 use Rattle.cache_build.proofs.SegmentPages.{length-pages_of, page_byte, stands_byte}
 use Rattle.cache_build.proofs.CacheLaws.{plain_of, slid_of, count_is, path_is, most_is, free_byte}
 use Rattle.cache_build.proofs.SetPointers.{sound_at}
 use Rattle.cache_build.proofs.WholePages.{header_long, header_fits}
 use Rattle.cache_build.proofs.CachedSegments.{segment_stands}
 use Rattle.cache_build.proofs.CachedImages.{links_in, spots_in, moves_in, mapped_byte, in_cache}
-use Rattle.cache_build.proofs.OwnWords.{in_word, IsPointerWord, word_of}
+use Rattle.cache_build.proofs.OwnWords.{in_word, IsPointerWord, word_at, word_of}
 use Rattle.cache_build.proofs.PlacesApart.{free_place}
 use Rattle.cache_build.proofs.LedPointers.{own_member, loaded_leads, mapped_leads}
 use Rattle.cache_build.proofs.ReadSets.{read_sets}
@@ -160,6 +161,13 @@ shape_same is ready k i lt at =
     let same : (get_or (moves_in is k) g m).address ≡ (move_at (layout_of is) k g).address = ap (λ (v : Moved). v.address) (get_or_default (moves_in is k) g m (record { address = 0; file = 0 }) below) in
     omega (arith, same, placed.2.address, placed.2.end, placed.2.span, paged-covers t.vmsize))
 
+-- the section of a word
+own_section : (is : List Img) → IsReady is → (k : ℕ) (i : Img) → k < length is → i ≡ get_or is k i → (word : Word) → IsWordOf (linked k i).words word → (u : Section) × (slice_get i.sections (word.section - 1) ≡ Some u)
+own_section is ready k i lt at word among =
+    let own : IsPointerWord k i (rebases_in i) word = word_of k i (rebases_in i) word among in
+    let place : IsWord i own.place = word_at i (rebases_in i) own.number own.place (read_sets is ready.streams k i (slice_get_read is (length is) k i refl lt at)) own.found in
+    (place.section, ap (λ (w : Word). slice_get i.sections (w.section - 1)) own.is ∙ place.section_is)
+
 -- both sides of a word
 both_lead : (is : List Img) → IsReady is → (k : ℕ) (i : Img) → k < length is → i ≡ get_or is k i → (slides : ℕ → ℕ) (slide header header' : ℕ) (cached : ℕ → Option Img) → cached k ≡ Some (moved_image i (moves_in is k) (spots_in is) (slid_of is 0))
     → (word : Word) (u v : Section) → IsWordOf (linked k i).words word
@@ -185,8 +193,15 @@ image_corresponds : (is : List Img) → IsReady is → (k : ℕ) (i : Img) → k
 unfolding loaded_image bound_to
 image_corresponds is ready k i lt at slides slide cached found = record {
   shape = shape_same is ready k i lt at;
-  words = λ w u v among first second. both_lead is ready k i lt at slides slide _ _ cached found w u v among first second;
-  bytes = λ j offset u v first second inside free. same_byte is ready k i lt at (slides k) slide j offset u v first second inside free;
+  words = λ w among.
+      let u = own_section is ready k i lt at w among in
+      let v = moved_section i (moves_in is k) (spots_in is) (slid_of is 0) (w.section - 1) u.0 u.1 in
+      let sides = both_lead is ready k i lt at slides slide _ _ cached found w u.0 _ among u.1 v in
+      (u.0, _, u.1, v, sides.0, sides.1);
+  bytes = λ j offset u first inside free.
+      let v = moved_section i (moves_in is k) (spots_in is) (slid_of is 0) j u first in
+      let byte = same_byte is ready k i lt at (slides k) slide j offset u _ first v inside free in
+      (_, v, byte.0, byte.1, byte.2);
   exports = tt;
 }
 

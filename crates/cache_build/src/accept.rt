@@ -4,10 +4,11 @@ ghost use Rattle.macho_image.specs.Macho.{image_of, loads_of, segment_loads, com
 ghost use Rattle.macho_image.specs.Refuses.{IsRefusal};
 ghost use Rattle.macho_image.specs.Rules.{breaks_command_shape};
 ghost use Rattle.cache_build.specs.Breaks.{breaks_not_yet, shape_break, in_each, images_of};
-ghost use Rattle.cache_build.specs.Built.{contents, set_fault, IsSetRefusal};
+ghost use Rattle.cache_build.specs.Built.{contents, IsSetRefusal};
 
+use crate::fault::of_image;
 use crate::not_yet::{begins_universal, unbuilt_command};
-use dsc_base::{Break, Fault, NoMemory, Rule, SetFault, Site};
+use dsc_base::{Fault, NoMemory, Rule, SetFault, Site};
 use macho_image::{Form, Image, read_image};
 use std::alloc::{AllocError, Global};
 
@@ -50,19 +51,6 @@ fn not_built(at: u64) -> Fault
         rule: Rule::NotYet,
         at,
     })
-}
-
-pub fn of_image(fault: Fault, image: u32) -> SetFault
-    ensures { result ≡ set_fault image fault }
-{
-    match fault {
-        Fault::Broken(site) => SetFault::Broken(Break {
-            rule: site.rule,
-            image,
-            at: site.at,
-        }),
-        Fault::Memory => SetFault::Memory,
-    }
 }
 
 /// The images of files that can be built, or the first rule of the first phase that one of them breaks.

@@ -14,7 +14,7 @@ ghost use Rattle.cache_build.specs.Cache.{headers_of, all_pages, cache_from, sli
 ghost use Rattle.cache_build.specs.Fits.{AreSized, HasMoves, CanAssemble};
 ghost use Rattle.cache_build.specs.Setting.{AreRead, CanChain, CanLink};
 
-use crate::accept::of_image;
+use crate::fault::of_image;
 use crate::frame::Frame;
 use crate::head::cache_head;
 use crate::headers::cached_headers;

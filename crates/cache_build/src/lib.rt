@@ -5,13 +5,14 @@ mod accept;
 mod assemble;
 mod builder;
 mod duplicates;
+mod fault;
 mod frame;
 mod head;
 mod headers;
-mod leading;
 mod not_yet;
 mod pointers;
 mod segments;
 mod streams;
+mod targets;
 
 pub use builder::{Options, build};

@@ -6,7 +6,7 @@ ghost use Rattle.load_model.specs.Pointers.{rebases_in};
 ghost use Rattle.cache_build.specs.Breaks.{image_streams_break, streams_break};
 ghost use Rattle.cache_build.specs.Built.{IsSetRefusal};
 
-use crate::accept::of_image;
+use crate::fault::of_image;
 use dsc_base::{Fault, Rule, SetFault, Site};
 use macho_image::{Image, Location};
 use rebase_ops::read_rebases;

@@ -83,15 +83,15 @@ mapped_starts cached slide k g = wrap (start_of (cached k) g + slide)
 -- One file and its cached image, in memory: the file loaded at one slide, the cache mapped at another.
 pub record ImageCorresponds (file : Linked) (cached : Linked) (loaded_cells mapped_cells : Cells) (loaded_at mapped_at : Starts) (load_slide map_slide : ℕ) : Type 0 where
   pub shape : shape_of cached.image ≡ shape_of file.image
-  -- each word leads to its target, in the file as it is loaded and in the cache as it is mapped
-  pub words : (w : Word) (s t : Section) → IsWordOf file.words w
-      → slice_get file.image.sections (w.section - 1) ≡ Some s → slice_get cached.image.sections (w.section - 1) ≡ Some t
-      → Leads loaded_cells loaded_at (wrap (s.addr + w.offset + load_slide)) (wrap (header_address file.image + load_slide)) w
+  -- each word stands in a section of both, and leads to its target in the file as it is loaded and in the cache as it is mapped
+  pub words : (w : Word) → IsWordOf file.words w
+      → (s : Section) × (t : Section) × (slice_get file.image.sections (w.section - 1) ≡ Some s) × (slice_get cached.image.sections (w.section - 1) ≡ Some t)
+      × Leads loaded_cells loaded_at (wrap (s.addr + w.offset + load_slide)) (wrap (header_address file.image + load_slide)) w
       × Leads mapped_cells mapped_at (wrap (t.addr + w.offset + map_slide)) (wrap (header_address cached.image + map_slide)) w
   -- each other byte of each section is there and is the same
-  pub bytes : (j offset : ℕ) (s t : Section) → slice_get file.image.sections j ≡ Some s → slice_get cached.image.sections j ≡ Some t
-      → offset < s.size → (InWord file.words (j + 1) offset → ⊥)
-      → (b : ℕ) × (loaded_cells (wrap (s.addr + offset + load_slide)) ≡ Some b) × (mapped_cells (wrap (t.addr + offset + map_slide)) ≡ Some b)
+  pub bytes : (j offset : ℕ) (s : Section) → slice_get file.image.sections j ≡ Some s → offset < s.size → (InWord file.words (j + 1) offset → ⊥)
+      → (t : Section) × (slice_get cached.image.sections j ≡ Some t)
+      × (b : ℕ) × (loaded_cells (wrap (s.addr + offset + load_slide)) ≡ Some b) × (mapped_cells (wrap (t.addr + offset + map_slide)) ≡ Some b)
   pub exports : SameExports file.image cached.image file.exports cached.exports
 
 -- A set of files, each loaded at a slide of its own, and a cache that is mapped at one.

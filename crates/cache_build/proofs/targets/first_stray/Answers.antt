@@ -2,7 +2,7 @@ use Rattle.std.proofs.Common.{sym, ◌∙◌, arith}
 use Rattle.cache_build.specs.Breaks.{pointer_break}
 use Rattle.cache_build.proofs.LeadLaws.{each_broken, each_more, each_done}
 use Rattle.cache_build.proofs.StreamLaws.{stream_at}
-use Rattle.cache_build.proofs.leading.first_stray.Goals as goal
+use Rattle.cache_build.proofs.targets.first_stray.Goals as goal
 
 pub image_pointer-requires : goal.image_pointer-requires
 image_pointer-requires c =

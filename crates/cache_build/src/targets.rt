@@ -11,7 +11,7 @@ use std::alloc::Global;
 use word_places::{Inside, SegmentIndex, number_at_address};
 
 /// The number that an image has at a word, in its file.
-pub fn value(segments: &[Segment<'_>], word: Location) -> u64
+fn value(segments: &[Segment<'_>], word: Location) -> u64
     ensures { result ≡ value_in (slice_get segments.now word.segment) word.address }
 {
     match segments.get(word.segment as usize) {

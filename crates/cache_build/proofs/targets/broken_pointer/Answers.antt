@@ -3,7 +3,7 @@ use Rattle.dsc_base.specs.declared.rule.Rule.TheVariants.{RebaseOutside}
 use Rattle.macho_image.specs.Breaks.{broken}
 use Rattle.word_places.specs.Segments.{inside}
 use Rattle.cache_build.proofs.LeadLaws.{led_start, led_more, led_into, led_done}
-use Rattle.cache_build.proofs.leading.broken_pointer.Goals as goal
+use Rattle.cache_build.proofs.targets.broken_pointer.Goals as goal
 
 pub loop-number-init : goal.loop-number-init
 loop-number-init c = led_start c.args.segments.now c.args.pointers.now
