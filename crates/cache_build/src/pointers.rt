@@ -142,6 +142,15 @@ fn set_in_image(
     Ok(())
 }
 
+/// How many pointers there are.
+fn pointer_count(streams: &[Vec<Location>]) -> usize {
+    let mut count: usize = 0;
+    for pointers in streams {
+        count = count.saturating_add(pointers.len());
+    }
+    count
+}
+
 /// Sets all pointers of the images in the data of their cache, and gives their places there, rising.
 pub fn set_pointers(
     alloc: Global,
@@ -158,7 +167,7 @@ pub fn set_pointers(
     ensures set { OnOk result (area.new ≡ put_all (pointers_of layout.now images.now) area.old) }
     ensures words { IfOk result (λ v. v.items ≡ places (pointers_of layout.now images.now)) }
 {
-    let mut words = Vec::new(alloc);
+    let mut words = Vec::with_capacity(alloc, pointer_count(streams))?;
     for (number, image) in images.iter().enumerate() {
         set_in_image(
             alloc,

@@ -268,7 +268,7 @@ fn other_files_are_refused(rt: HostRuntime) -> Result<(), Fail> {
     }
     let mut crossing = data_dylib(alloc, 0x2000)?;
     put_all(&mut crossing, &AT_THE_EDGE);
-    put_u32(&mut crossing, 0x3000, 0x1FFC_2111);
+    put_all(&mut crossing, &[(0x3000, 0x1FFC_2111)]);
     is_refused(&rt, alloc, crossing, "28 RebaseCrossesPage image 0 at 0x4")?;
     let large = large_dylib(alloc, 0x2000_1000)?;
     is_refused(&rt, alloc, large, "141 SpanTooLarge image 0 at 0x20003000")?;

@@ -1,5 +1,5 @@
 // Files that tests build from.
-ghost use Rattle.std.specs.Prelude.{◌≤◌, ◌×◌};
+ghost use Rattle.std.specs.Prelude.{◌≤◌};
 
 use dsc_base::{Field, NoMemory, spell_fields};
 use std::alloc::Global;

@@ -13,7 +13,7 @@ use Rattle.cache_build.proofs.pointers.set_pointers.Goals as goal
 
 pub loop-number-init : goal.loop-number-init
 unfolding pointers_of
-loop-number-init c = record { set = sym (put_none c.args.area.now); words = c.new-words.ensures.items }
+loop-number-init c = record { set = sym (put_none c.args.area.now); words = c.in_ok-words.ensures.items }
 
 pub loop-number-preserved : goal.loop-number-preserved
 unfolding pointers_of
