@@ -1,0 +1,48 @@
+-- Why a bind stream is refused: rules 41 to 56, and 61 to 76 of the lazy one.
+use Rattle.dsc_base.specs.declared.rule.Rule.{Rule}
+use Rattle.dsc_base.specs.declared.rule.Rule.TheVariants.{BindBadUleb, BindBadOpcode, BindBadType, BindOutsideSegment, BindNotWritable, BindOutsideSection, BindMisaligned, BindCrossesPage, BindTooMany, BindTwice, BindBeforeSet, BindMainLookup, BindFlatLookup, BindWeakLookup, BindThreaded, BindBadName, LazyBadUleb, LazyBadOpcode, LazyBadType, LazyOutsideSegment, LazyNotWritable, LazyOutsideSection, LazyMisaligned, LazyCrossesPage, LazyTooMany, LazyTwice, LazyBeforeSet, LazyMainLookup, LazyFlatLookup, LazyWeakLookup, LazyThreaded, LazyBadName}
+use Rattle.word_places.specs.declared.place.PlaceFault.TheVariants.{OutsideSegment, NotWritable, OutsideSection, Misaligned, CrossesPage, TooMany}
+use Rattle.bind_ops.specs.declared.fault.BindFault.{BindFault}
+use Rattle.bind_ops.specs.declared.fault.BindFault.TheVariants.{BadUleb, BadOpcode, BadType, Place, BeforeSet, MainLookup, FlatLookup, WeakLookup, Threaded, BadName, Twice}
+use Rattle.bind_ops.specs.declared.kind.StreamKind.{StreamKind}
+use Rattle.bind_ops.specs.declared.kind.StreamKind.TheVariants.{Bind, Lazy}
+
+abbrev pub bind_rule : BindFault → Rule
+bind_rule BadUleb = BindBadUleb
+bind_rule BadOpcode = BindBadOpcode
+bind_rule BadType = BindBadType
+bind_rule (Place OutsideSegment) = BindOutsideSegment
+bind_rule (Place NotWritable) = BindNotWritable
+bind_rule (Place OutsideSection) = BindOutsideSection
+bind_rule (Place Misaligned) = BindMisaligned
+bind_rule (Place CrossesPage) = BindCrossesPage
+bind_rule (Place TooMany) = BindTooMany
+bind_rule BeforeSet = BindBeforeSet
+bind_rule MainLookup = BindMainLookup
+bind_rule FlatLookup = BindFlatLookup
+bind_rule WeakLookup = BindWeakLookup
+bind_rule Threaded = BindThreaded
+bind_rule BadName = BindBadName
+bind_rule Twice = BindTwice
+
+abbrev pub lazy_rule : BindFault → Rule
+lazy_rule BadUleb = LazyBadUleb
+lazy_rule BadOpcode = LazyBadOpcode
+lazy_rule BadType = LazyBadType
+lazy_rule (Place OutsideSegment) = LazyOutsideSegment
+lazy_rule (Place NotWritable) = LazyNotWritable
+lazy_rule (Place OutsideSection) = LazyOutsideSection
+lazy_rule (Place Misaligned) = LazyMisaligned
+lazy_rule (Place CrossesPage) = LazyCrossesPage
+lazy_rule (Place TooMany) = LazyTooMany
+lazy_rule BeforeSet = LazyBeforeSet
+lazy_rule MainLookup = LazyMainLookup
+lazy_rule FlatLookup = LazyFlatLookup
+lazy_rule WeakLookup = LazyWeakLookup
+lazy_rule Threaded = LazyThreaded
+lazy_rule BadName = LazyBadName
+lazy_rule Twice = LazyTwice
+
+abbrev pub rule_in : StreamKind → BindFault → Rule
+rule_in Bind fault = bind_rule fault
+rule_in Lazy fault = lazy_rule fault

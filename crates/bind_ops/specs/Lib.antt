@@ -1,0 +1,6 @@
+pub mod Binds
+pub mod Clash
+pub mod Faults
+pub mod Opcodes
+pub mod Records
+pub mod Weak
