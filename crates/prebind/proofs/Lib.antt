@@ -1,0 +1,11 @@
+pub mod DistinctLaws
+pub mod ExportLaws
+pub mod InsideLaws
+pub mod MetLaws
+pub mod OrderLaws
+pub mod PlaceLaws
+pub mod ResolveLaws
+pub mod SameLaws
+pub mod SoundLaws
+pub mod StepLaws
+pub mod WordLaws

@@ -1,0 +1,20 @@
+//! Symbols of a set of dylibs resolved before they are loaded, in the two-level namespace of
+//! `mach-o/loader.h` of Apple's published sources.
+#![tactic(auto)]
+
+mod exports;
+mod lookups;
+mod met;
+mod place;
+mod rebased;
+mod resolution;
+mod resolved;
+mod segments;
+mod set;
+mod words;
+
+pub use exports::check_exports;
+pub use place::place_words;
+pub use resolution::resolve;
+pub use resolved::{PlacedWord, Resolved, WordTarget};
+pub use set::{ImageStreams, Set};

@@ -1,0 +1,174 @@
+// The bound and rebased words of an image, and where they lead.
+ghost use Rattle.std.specs.Prelude.{◌≡◌, ◌<◌, ◌++◌, ◌∷◌, [], not, None, length, map, filter, nat_eq, option_map, IfOk, OnOk, MatchResult};
+ghost use Rattle.std.specs.List.Sorted.{IsPermutation, IsNonDecreasingBy};
+ghost use Rattle.indexmap.specs.IndexMap.{get};
+ghost use Rattle.indexmap.specs.IndexSet.{contains};
+ghost use Rattle.macho_image.specs.Refuses.{Refuses};
+ghost use Rattle.word_places.specs.Index.{Indexes};
+ghost use Rattle.prebind.specs.Sets.{IsSoundSet};
+ghost use Rattle.prebind.specs.Steps.{set_of};
+ghost use Rattle.prebind.specs.Words as spec;
+
+use crate::lookups::{bound_addresses, recorded_pointers};
+use crate::rebased::{check_rebases, is_free, recorded_at, target_of, value_of};
+use crate::resolution::resolve;
+use crate::{ImageStreams, PlacedWord, Resolved, Set, WordTarget};
+use bind_ops::Bind;
+use dsc_base::{Fault, NoMemory, Rule, Site};
+use indexmap::{IndexMap, IndexSet};
+use macho_image::{Location, Segment};
+use std::alloc::Global;
+use word_places::SegmentIndex;
+
+// The rule that a bind breaks whose symbol has this outcome.
+fn outcome_fault(weak: bool, outcome: Resolved) -> Option<Rule>
+    ensures { result ≡ spec.outcome_fault weak outcome }
+{
+    match outcome {
+        Resolved::BadOrdinal => Some(Rule::BadOrdinal),
+        Resolved::Loop => Some(Rule::ReexportLoop),
+        Resolved::Absent => {
+            if weak {
+                None
+            } else {
+                Some(Rule::UnresolvedSymbol)
+            }
+        }
+        _ => None,
+    }
+}
+
+fn added(number: u64, addend: i64) -> u64
+    ensures { result ≡ spec.added number addend }
+{
+    number.wrapping_add(addend.cast_unsigned())
+}
+
+fn bound_target(addend: i64, outcome: Resolved) -> WordTarget
+    ensures { result ≡ spec.bound_target addend outcome }
+{
+    match outcome {
+        Resolved::Place {
+            image,
+            segment,
+            distance,
+        } => WordTarget::Place {
+            image,
+            segment,
+            distance: added(distance, addend),
+        },
+        Resolved::Constant(number) => WordTarget::Constant(added(number, addend)),
+        _ => WordTarget::Constant(added(0, addend)),
+    }
+}
+
+fn place_bind(
+    alloc: Global,
+    set: &Set<'_, '_>,
+    image: u32,
+    index: usize,
+    bind: &Bind<'_>,
+) -> Result<PlacedWord, Fault>
+    requires sound { IsSoundSet (set_of set.now) }
+    requires image { image < length set.now.images.now }
+    ensures found { IfOk result (λ w. w ≡ spec.placed_bind (set_of set.now) image bind.now) }
+    ensures cause { Refuses (spec.bind_fault (set_of set.now) image index bind.now) result }
+{
+    let outcome = resolve(alloc, set, image, bind.ordinal, bind.name)?;
+    match outcome_fault(bind.weak, outcome) {
+        Some(rule) => Err(Fault::Broken(Site {
+            rule,
+            at: index as u64,
+        })),
+        None => Ok(PlacedWord {
+            at: bind.at,
+            target: bound_target(bind.addend, outcome),
+        }),
+    }
+}
+
+// The bound words, or the first bind that breaks a rule.
+fn place_binds(
+    alloc: Global,
+    set: &Set<'_, '_>,
+    image: u32,
+    binds: &[Bind<'_>],
+) -> Result<Vec<PlacedWord>, Fault>
+    requires sound { IsSoundSet (set_of set.now) }
+    requires image { image < length set.now.images.now }
+    ensures found { IfOk result (λ v. v.items ≡ map (spec.placed_bind (set_of set.now) image) binds.now) }
+    ensures cause { Refuses (spec.bind_fault_from (set_of set.now) image 0 binds.now) result }
+{
+    let mut words = Vec::with_capacity(alloc, binds.len())?;
+    for (index, bind) in binds.iter().enumerate() {
+        let word = place_bind(alloc, set, image, index, bind)?;
+        words.push(word)?;
+    }
+    Ok(words)
+}
+
+// The rebases that aren't bound, behind the words that are placed before them.
+fn place_rebases(
+    segments: &[Segment<'_>],
+    index: &SegmentIndex,
+    bound: &IndexSet<u64>,
+    pointers: &IndexMap<u64, u32>,
+    image: u32,
+    rebases: &[Location],
+    words: &mut Vec<PlacedWord>,
+) -> Result<(), NoMemory>
+    requires { Indexes segments.now index.now }
+    ensures { OnOk result (words.new.items ≡ words.old.items ++ map (λ l. record { at = l; target = spec.rebase_target image segments.now (spec.value_of segments.now l) (get nat_eq pointers.now l.address) }) (filter (λ l. not (contains nat_eq bound.now l.address)) rebases.now)) }
+{
+    for word in rebases {
+        if is_free(bound, word) {
+            let value = value_of(segments, word);
+            let target = target_of(segments, index, image, value, recorded_at(pointers, word));
+            words.push(PlacedWord { at: *word, target })?;
+        }
+    }
+    Ok(())
+}
+
+// Puts words in the order of their addresses.
+fn sort_words(words: &mut Vec<PlacedWord>) -> Result<(), NoMemory>
+    ensures { OnOk result (spec.AreOrdered words.old.items words.new.items) }
+{
+    words.sort_by_key(|w| w.at.address)?;
+    Ok(())
+}
+
+// The words of image number `image`, by its segments and what its streams spell.
+pub(crate) fn words_in(
+    alloc: Global,
+    set: &Set<'_, '_>,
+    image: u32,
+    segments: &[Segment<'_>],
+    index: &SegmentIndex,
+    streams: &ImageStreams<'_>,
+) -> Result<Vec<PlacedWord>, Fault>
+    requires sound { IsSoundSet (set_of set.now) }
+    requires image { image < length set.now.images.now }
+    requires index { Indexes segments.now index.now }
+    ensures found { IfOk result (λ v. spec.AreOrdered (spec.all_words (set_of set.now) image segments.now streams.now) v.items) }
+    ensures cause { Refuses (spec.word_fault (set_of set.now) image segments.now streams.now) result }
+{
+    let mut words = place_binds(alloc, set, image, &streams.binds)?;
+    let bound = bound_addresses(alloc, &streams.binds)?;
+    let pointers = recorded_pointers(alloc, &streams.references)?;
+    match check_rebases(segments, index, &bound, &pointers, &streams.rebases) {
+        Ok(()) => {}
+        Err(fault) => return Err(fault),
+    }
+    place_rebases(
+        segments,
+        index,
+        &bound,
+        &pointers,
+        image,
+        &streams.rebases,
+        &mut words,
+    )?;
+    sort_words(&mut words)?;
+    Ok(words)
+}
