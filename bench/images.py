@@ -6,8 +6,6 @@ the input's size. Times are the median of five.
 usage: images.py [FOLDER]     FOLDER is where the files are written; a folder of its own beside this script if absent
 """
 import os
-import sys
-import tempfile
 
 import plain
 
@@ -18,20 +16,14 @@ def dylib(number, size):
 
 
 def main():
-    if not os.path.exists(plain.PROGRAM):
-        sys.exit("no program yet: run ./dsc once")
-    folder = sys.argv[1] if len(sys.argv) > 1 else None
-    with tempfile.TemporaryDirectory(dir=folder or os.path.dirname(os.path.abspath(__file__))) as place:
+    with plain.workplace() as place:
         cache = os.path.join(place, "cache")
         for count in (1, 64, 1024):
             paths = plain.write_set(place, count, lambda number: dylib(number, 60 << 10))
-            seconds, _ = plain.median([plain.PROGRAM, "build", cache, *paths], cache)
+            seconds, _ = plain.build(paths, cache)
             print(f"{count} images of 60 KiB: {1000 * seconds / count:.3f} ms an image")
         paths = plain.write_set(place, 64, lambda number: dylib(number, 4 << 20))
-        whole = sum(map(os.path.getsize, paths))
-        copied, _ = plain.median(["sh", "-c", 'out=$1; shift; exec cat "$@" > "$out"', "sh", cache, *paths], cache)
-        built, memory = plain.median([plain.PROGRAM, "build", cache, *paths], cache)
-        print(f"64 images of 4 MiB: {built:.3f} s, cat {copied:.3f} s, ratio {built / copied:.2f}, memory {memory / whole:.2f} times the input")
+        plain.against_cat(paths, cache, *plain.build(paths, cache))
 
 
 main()

@@ -67,10 +67,27 @@ def median(command, out):
     return statistics.median(run[0] for run in runs), max(run[1] for run in runs)
 
 
-def main():
+def workplace():
+    """A folder for the files of a run, which goes with them at the end."""
     if not os.path.exists(PROGRAM):
         sys.exit("no program yet: run ./dsc once")
-    with tempfile.TemporaryDirectory(dir=sys.argv[1] if len(sys.argv) > 1 else os.path.dirname(__file__)) as folder:
+    return tempfile.TemporaryDirectory(dir=sys.argv[1] if len(sys.argv) > 1 else os.path.dirname(os.path.abspath(__file__)))
+
+
+def build(paths, cache):
+    """Median seconds and peak memory in bytes of building the cache of these files."""
+    return median([PROGRAM, "build", cache, *paths], cache)
+
+
+def against_cat(paths, out, seconds, memory):
+    """Says how a build of these files compares with `cat` of the same, run now."""
+    whole = sum(map(os.path.getsize, paths))
+    copied, _ = median(["sh", "-c", 'out=$1; shift; exec cat "$@" > "$out"', "sh", out, *paths], out)
+    print(f"{whole >> 20} MiB: {seconds:.3f} s, cat {copied:.3f} s, ratio {seconds / copied:.2f}, memory {memory / whole:.2f} times the input")
+
+
+def main():
+    with workplace() as folder:
         source, cache, copy = (os.path.join(folder, name) for name in ("plain", "cache", "copy"))
         data = dylib()
         with open(source, "wb") as file:

@@ -7,8 +7,6 @@ usage: pointers.py [FOLDER]     FOLDER is where the files are written; a folder 
 """
 import os
 import struct
-import sys
-import tempfile
 
 import plain
 
@@ -42,21 +40,16 @@ def dylib(name):
 
 
 def main():
-    if not os.path.exists(plain.PROGRAM):
-        sys.exit("no program yet: run ./dsc once")
-    folder = sys.argv[1] if len(sys.argv) > 1 else None
-    with tempfile.TemporaryDirectory(dir=folder or os.path.dirname(os.path.abspath(__file__))) as place:
+    with plain.workplace() as place:
         cache = os.path.join(place, "cache")
         each = []
         for count in (64, 1024):
             paths = plain.write_set(place, count, lambda number: dylib(b"/pointers%04d.dylib" % number))
-            seconds, memory = plain.median([plain.PROGRAM, "build", cache, *paths], cache)
+            seconds, memory = plain.build(paths, cache)
             each.append(seconds / count / POINTERS)
             print(f"{count} images of {POINTERS} pointers: {1e9 * each[-1]:.1f} ns a pointer")
         print(f"a pointer of the larger set takes {each[1] / each[0]:.2f} times one of the smaller")
-        whole = sum(map(os.path.getsize, paths))
-        copied, _ = plain.median(["sh", "-c", 'out=$1; shift; exec cat "$@" > "$out"', "sh", cache, *paths], cache)
-        print(f"{whole >> 20} MiB: {seconds:.3f} s, cat {copied:.3f} s, ratio {seconds / copied:.2f}, memory {memory / whole:.2f} times the input")
+        plain.against_cat(paths, cache, seconds, memory)
 
 
 main()
