@@ -3,8 +3,10 @@ pub mod Edits
 pub mod Fields
 pub mod FindingNames
 pub mod InMemory
+pub mod Limits
 pub mod Numbers
 pub mod Outside
+pub mod Refusals
 pub mod Region
 pub mod RuleNames
 pub mod Uleb

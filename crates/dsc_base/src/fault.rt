@@ -69,6 +69,24 @@ pub enum UlebFault {
     TooWide,
 }
 
+impl Fault {
+    ghost use Rattle.dsc_base.specs.Refusals.{in_set};
+
+    /// This fault of one image as one of a set of files, where the image has this number.
+    pub fn in_image(self, image: u32) -> SetFault
+        ensures { result ≡ in_set image self }
+    {
+        match self {
+            Fault::Broken(site) => SetFault::Broken(Break {
+                rule: site.rule,
+                image,
+                at: site.at,
+            }),
+            Fault::Memory => SetFault::Memory,
+        }
+    }
+}
+
 impl From<AllocError> for NoMemory {
     fn from(_: AllocError) -> Self {
         NoMemory

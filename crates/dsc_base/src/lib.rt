@@ -6,6 +6,7 @@ mod edits;
 mod fault;
 mod fields;
 mod finding_kind;
+mod limits;
 mod name;
 mod numbers;
 mod outside;
@@ -18,6 +19,7 @@ pub use edits::{Edit, get_u16, get_u32, get_u64, put_edits};
 pub use fault::{Break, Fault, Finding, NoMemory, SetFault, Site, Span, UlebFault, ViewFault};
 pub use fields::{Field, spell_fields};
 pub use finding_kind::FindingKind;
+pub use limits::{EXPORT_NAMES_LIMIT, NAME_LIMIT, RECORD_LIMIT, SET_RECORD_LIMIT, SPAN_LIMIT};
 pub use name::Name;
 pub use numbers::{put_u16, put_u32, put_u64, read_u16, read_u32, read_u64, round_up};
 pub use outside::{

@@ -103,6 +103,7 @@ pub enum Rule {
     BoundOutOfRange,
     TooManyExtras,
     LinkeditTooLarge,
+    PatchShape,
     NotYet,
 }
 
@@ -210,6 +211,7 @@ impl Rule {
             Rule::BoundOutOfRange => 153,
             Rule::TooManyExtras => 161,
             Rule::LinkeditTooLarge => 171,
+            Rule::PatchShape => 182,
             Rule::NotYet => 190,
         }
     }
@@ -317,6 +319,7 @@ impl Rule {
             Rule::BoundOutOfRange => "BoundOutOfRange",
             Rule::TooManyExtras => "TooManyExtras",
             Rule::LinkeditTooLarge => "LinkeditTooLarge",
+            Rule::PatchShape => "PatchShape",
             Rule::NotYet => "NotYet",
         }
     }
