@@ -3,7 +3,8 @@ use Rattle.std.proofs.Common.{◌≡◌, ◌<◌, ◌+◌, ℕ, Bool, true, fals
 use Rattle.std.specs.Prelude.{filter, slice_get}
 use Rattle.macho_image.specs.Records.{Load}
 use Rattle.macho_image.specs.Macho.{number_of}
-use Rattle.macho_image.specs.Rules.{least, is_of_kind, second_of, second_of_any}
+use Rattle.macho_image.specs.Rules.{is_of_kind, second_of, second_of_any}
+use Rattle.dsc_base.specs.Refusals.{least}
 
 -- where the next command of the kind stands, or the one after it while none was seen
 abbrev pub second_from : (ℕ × ℕ) → Bool → List Load → Option ℕ

@@ -9,7 +9,8 @@ use Rattle.std.proofs.lemmas.List.Sorted.{sum_by-IsPermutation}
 use Rattle.std.proofs.lemmas.Bool.{false≢true}
 use Rattle.std.proofs.lemmas.Bool.Decides.{nat_tests}
 use Rattle.macho_image.specs.Records.{SegmentLoad}
-use Rattle.macho_image.specs.Rules.{least, first_segment, is_well_shaped, misplaced, shares_address, first_crossing, breaks_segment_shape}
+use Rattle.macho_image.specs.Rules.{first_segment, is_well_shaped, misplaced, shares_address, first_crossing, breaks_segment_shape}
+use Rattle.dsc_base.specs.Refusals.{least}
 use Rattle.macho_image.specs.Addresses.{range_of, has_addresses, ranges_of, are_in_turn}
 
 abbrev pub one_of : Bool → ℕ

@@ -15,9 +15,9 @@ use Rattle.macho_image.specs.declared.form.Form.{Form}
 use Rattle.macho_image.specs.declared.form.Form.TheVariants.{Standalone, Cached}
 use Rattle.macho_image.specs.Records.{Seg, Img, Load, SegmentLoad}
 use Rattle.macho_image.specs.Macho.{number_of, size_of, is_segment, commands_in, commands_of, loads_from, segment_load, header_size, header_in, loads_of, segment_loads, segment_of, segment_with, image_from, image_of}
-use Rattle.macho_image.specs.Rules.{least, first_segment, says_cached, flags_fit, breaks_not_mach_o, breaks_wrong_kind, breaks_command_shape, breaks_segment_shape, breaks_segment_place, breaks_linkedit_range, starts_elsewhere, misshapen}
-use Rattle.macho_image.specs.Refuses.{IsRefusal}
-use Rattle.macho_image.specs.Breaks.{broken, first_break, kind_break, command_break, section_break, name_break, header_break, load_break, image_break, form_of, unread, image_unless, image_at, IsSound}
+use Rattle.macho_image.specs.Rules.{first_segment, says_cached, flags_fit, breaks_not_mach_o, breaks_wrong_kind, breaks_command_shape, breaks_segment_shape, breaks_segment_place, breaks_linkedit_range, starts_elsewhere, misshapen}
+use Rattle.dsc_base.specs.Refusals.{least, IsRefusal, broken, first_break}
+use Rattle.macho_image.specs.Breaks.{kind_break, command_break, section_break, name_break, header_break, load_break, image_break, form_of, unread, image_unless, image_at, IsSound}
 
 pub or_none : (a b : Option Site) → option_or a b ≡ None → (a ≡ None) × (b ≡ None)
 or_none None b e = (refl, e)
@@ -143,9 +143,9 @@ header_whole b h none =
     omega (arith, long, header_short b h, header_ends b h)
 
 -- the image that is read where no rule is broken is sound
-pub image_sound : (form : Form) (b : List ℕ) (h : ℕ) → image_break form b h ≡ None → IsSound (image_from b (header_in b h))
+pub image_sound : (form : Form) (b : List ℕ) (h : ℕ) → (form ≡ Standalone → h ≡ 0) → image_break form b h ≡ None → IsSound (image_from b (header_in b h))
 unfolding image_from
-image_sound form b h none =
+image_sound form b h front none =
     let whole = image_unbroken form b h none in
     let kinds = kind_unbroken form (header_in b h) whole.kind in
     let told : form_of (header_in b h) ≡ form = form_is form (header_in b h) kinds.kind in
@@ -153,6 +153,7 @@ image_sound form b h none =
     record {
       unbroken = ap (λ (f : Form). header_break f (header_in b h)) told ∙ header_unbroken form b h whole;
       whole = header_whole b h kinds.shape;
+      begins = λ is. ap (λ (k : ℕ). starts_elsewhere k (segment_loads (loads_of (header_in b h)))) (sym (front (sym told ∙ is))) ∙ placed.1;
       segments = segments_unread b (segment_loads (loads_of (header_in b h)));
       sizes = segments_sized b (segment_loads (loads_of (header_in b h))) placed.0;
       sections = refl;

@@ -1,24 +1,15 @@
 -- The first rule that a dylib breaks, and the image of one that breaks none.
-use Rattle.std.specs.Prelude.{◌≡◌, ℕ, List, [], ◌∷◌, length, map, Option, Some, None, option_map, is_some, if◌then◌else◌}
-use Rattle.std.specs.Option.{option_or}
+use Rattle.std.specs.Prelude.{◌≡◌, ℕ, List, [], ◌∷◌, length, map, Option, Some, None, is_some, if◌then◌else◌}
 use Rattle.std.specs.List.{filter_map}
 use Rattle.dsc_base.specs.Numbers.{number_at}
 use Rattle.dsc_base.specs.declared.fault.Site.{Site}
-use Rattle.dsc_base.specs.declared.rule.Rule.{Rule}
 use Rattle.dsc_base.specs.declared.rule.Rule.TheVariants.{NotMachO, WrongKind, CommandShape, UnknownCommand, CommandTwice, NoInstallName, SegmentShape, SegmentProt, SectionShape, Interposing, HasRelocations, NameText, UnsafeName, LinkeditRange}
 use Rattle.macho_image.specs.declared.form.Form.{Form}
 use Rattle.macho_image.specs.declared.form.Form.TheVariants.{Standalone, Cached}
 use Rattle.macho_image.specs.Records.{Seg, Img, Load, SegmentLoad}
 use Rattle.macho_image.specs.Macho.{header_size, header_in, commands_of, loads_of, segment_loads, segment_with, sections_from, dependency_of, command_where, is_install_name, install_name_of, is_dysymtab, groups_of, is_uuid, uuid_of, is_dyld_info, image_of}
-use Rattle.macho_image.specs.Rules.{least, says_cached, breaks_not_mach_o, breaks_wrong_kind, breaks_command_shape, breaks_unknown_command, breaks_command_twice, breaks_no_install_name, breaks_segment_shape, breaks_segment_place, breaks_segment_prot, breaks_section_shape, breaks_interposing, breaks_has_relocations, breaks_name_text, breaks_unsafe_name, breaks_linkedit_range}
-
-abbrev pub broken : Rule → Option ℕ → Option Site
-broken rule place = option_map (λ n. record { rule = rule; at = n }) place
-
--- the first of several breaks
-abbrev pub first_break : List (Option Site) → Option Site
-first_break [] = None
-first_break (b ∷ bs) = option_or b (first_break bs)
+use Rattle.macho_image.specs.Rules.{says_cached, breaks_not_mach_o, breaks_wrong_kind, breaks_command_shape, breaks_unknown_command, breaks_command_twice, breaks_no_install_name, breaks_segment_shape, breaks_segment_place, starts_elsewhere, breaks_segment_prot, breaks_section_shape, breaks_interposing, breaks_has_relocations, breaks_name_text, breaks_unsafe_name, breaks_linkedit_range}
+use Rattle.dsc_base.specs.Refusals.{least, broken, first_break}
 
 -- rules 3 to 6
 unfoldable pub kind_break : Form → List ℕ → Option Site
@@ -77,10 +68,11 @@ form_of header = if says_cached (number_at 4 header 24) then Cached else Standal
 abbrev pub unread : Seg → Seg
 unread s = record s { bytes = [] }
 
--- what is true of every image: its header breaks none of rules 3 and 5 to 16 and is as long as it says, all but its streams and its segments' bytes is what the header spells, and each segment has as many bytes as its filesize
+-- what is true of every image: its header breaks none of rules 3 and 5 to 16 and is as long as it says, a file of its own begins with its first segment, all but its streams and its segments' bytes is what the header spells, and each segment has as many bytes as its filesize
 pub record IsSound (image : Img) : Type 0 where
   pub unbroken : header_break (form_of image.header) image.header ≡ None
   pub whole : length image.header ≡ header_size image.header
+  pub begins : form_of image.header ≡ Standalone → starts_elsewhere 0 (segment_loads (loads_of image.header)) ≡ None
   pub segments : map unread image.segments ≡ map (segment_with []) (segment_loads (loads_of image.header))
   pub sizes : map (λ s. length s.bytes) image.segments ≡ map (λ s. s.filesize) image.segments
   pub sections : image.sections ≡ sections_from 0 (segment_loads (loads_of image.header))

@@ -5,11 +5,12 @@ use Rattle.dsc_base.specs.Numbers.{number_at}
 use Rattle.macho_image.specs.declared.form.LinkKind.{LinkKind}
 use Rattle.macho_image.specs.declared.form.LinkKind.TheVariants.{Load as LoadLink, Weak, Reexport, Upward}
 use Rattle.macho_image.specs.declared.section.Section.{Section}
+use Rattle.macho_image.specs.Format.{header_ncmds, header_sizeofcmds, size_of_header, command_cmd, command_cmdsize, segment_segname, segment_vmaddr, segment_vmsize, segment_fileoff, segment_filesize, segment_maxprot, segment_initprot, segment_nsects, segment_flags, size_of_segment_command, section_segname, section_addr, section_size, section_offset, section_nreloc, section_flags, size_of_section, dyld_info_rebase_off, dyld_info_rebase_size, dyld_info_bind_off, dyld_info_bind_size, dyld_info_weak_bind_off, dyld_info_weak_bind_size, dyld_info_lazy_bind_off, dyld_info_lazy_bind_size, dyld_info_export_off, dyld_info_export_size, linkedit_data_dataoff, linkedit_data_datasize, symtab_symoff, symtab_nsyms, symtab_stroff, symtab_strsize, dysymtab_ilocalsym, dysymtab_nlocalsym, dysymtab_iextdefsym, dysymtab_nextdefsym, dysymtab_iundefsym, dysymtab_nundefsym, dysymtab_indirectsymoff, dysymtab_nindirectsyms, dylib_name_offset, uuid_uuid}
 use Rattle.macho_image.specs.Records.{Seg, Dep, StreamBytes, Img, Load, SegmentLoad, SectionLoad}
 
 -- mach_header_64: the header and its commands end where sizeofcmds says
 abbrev pub header_size : List ℕ → ℕ
-header_size header = 32 + number_at 4 header 20
+header_size header = size_of_header + number_at 4 header header_sizeofcmds
 
 -- the header at place h of the bytes, with its commands, as far as the bytes go
 unfoldable pub header_in : List ℕ → ℕ → List ℕ
@@ -17,10 +18,10 @@ header_in b h = take (header_size (drop h b)) (drop h b)
 
 -- load_command: cmd and cmdsize
 abbrev pub number_of : List ℕ → ℕ
-number_of c = number_at 4 c 0
+number_of c = number_at 4 c command_cmd
 
 abbrev pub size_of : List ℕ → ℕ
-size_of c = number_at 4 c 4
+size_of c = number_at 4 c command_cmdsize
 
 -- the n commands at the front of the bytes, each as long as its cmdsize
 abbrev pub commands_in : ℕ → List ℕ → List (List ℕ)
@@ -29,7 +30,7 @@ commands_in (suc n) bytes = take (size_of bytes) bytes ∷ commands_in n (drop (
 
 -- the ncmds commands behind a header
 abbrev pub commands_of : List ℕ → List (List ℕ)
-commands_of header = commands_in (number_at 4 header 16) (drop 32 header)
+commands_of header = commands_in (number_at 4 header header_ncmds) (drop size_of_header header)
 
 -- commands with their offsets, the first one at the given offset
 abbrev pub loads_from : ℕ → List (List ℕ) → List Load
@@ -37,7 +38,7 @@ loads_from at [] = []
 loads_from at (c ∷ cs) = record { at = at; bytes = c } ∷ loads_from (at + length c) cs
 
 abbrev pub loads_of : List ℕ → List Load
-loads_of header = loads_from 32 (commands_of header)
+loads_of header = loads_from size_of_header (commands_of header)
 
 abbrev pub pieces_of : List Load → List (List ℕ)
 pieces_of ls = map (λ l. l.bytes) ls
@@ -83,23 +84,23 @@ abbrev pub is_dylib : ℕ → Bool
 is_dylib n = is_install_name n || is_some (link_kind n)
 
 unfoldable pub dylib_name : List ℕ → List ℕ
-dylib_name c = before_first (λ x. nat_eq x 0) (drop (number_at 4 c 8) c)
+dylib_name c = before_first (λ x. nat_eq x 0) (drop (number_at 4 c dylib_name_offset) c)
 
 abbrev pub dependency_of : List ℕ → Option Dep
 dependency_of c = option_map (λ k. record { kind = k; name = dylib_name c }) (link_kind (number_of c))
 
 -- section_64, of 80 bytes
 unfoldable pub section_fields : List ℕ → SectionLoad
-section_fields x = record { name = take 16 x; segment_name = take 16 (drop 16 x); addr = number_at 8 x 32; size = number_at 8 x 40; offset = number_at 4 x 48; nreloc = number_at 4 x 60; flags = number_at 4 x 64 }
+section_fields x = record { name = take 16 x; segment_name = take 16 (drop section_segname x); addr = number_at 8 x section_addr; size = number_at 8 x section_size; offset = number_at 4 x section_offset; nreloc = number_at 4 x section_nreloc; flags = number_at 4 x section_flags }
 
 -- the n sections at the front of the bytes
 abbrev pub sections_in : ℕ → List ℕ → List SectionLoad
 sections_in zero bytes = []
-sections_in (suc n) bytes = section_fields bytes ∷ sections_in n (drop 80 bytes)
+sections_in (suc n) bytes = section_fields bytes ∷ sections_in n (drop size_of_section bytes)
 
 -- segment_command_64, of 72 bytes, and as many sections as the command has room for
 unfoldable pub segment_load : Load → SegmentLoad
-segment_load l = record { at = l.at; size = length l.bytes; name = take 16 (drop 8 l.bytes); vmaddr = number_at 8 l.bytes 24; vmsize = number_at 8 l.bytes 32; fileoff = number_at 8 l.bytes 40; filesize = number_at 8 l.bytes 48; maxprot = number_at 4 l.bytes 56; initprot = number_at 4 l.bytes 60; nsects = number_at 4 l.bytes 64; flags = number_at 4 l.bytes 68; sections = sections_in ((length l.bytes - 72) / 80) (drop 72 l.bytes) }
+segment_load l = record { at = l.at; size = length l.bytes; name = take 16 (drop segment_segname l.bytes); vmaddr = number_at 8 l.bytes segment_vmaddr; vmsize = number_at 8 l.bytes segment_vmsize; fileoff = number_at 8 l.bytes segment_fileoff; filesize = number_at 8 l.bytes segment_filesize; maxprot = number_at 4 l.bytes segment_maxprot; initprot = number_at 4 l.bytes segment_initprot; nsects = number_at 4 l.bytes segment_nsects; flags = number_at 4 l.bytes segment_flags; sections = sections_in ((length l.bytes - size_of_segment_command) / size_of_section) (drop size_of_segment_command l.bytes) }
 
 -- the segment commands, in command order
 abbrev pub segment_loads : List Load → List SegmentLoad
@@ -137,28 +138,28 @@ streams_of b cs =
     let split = command_where is_split_info cs in
     let symtab = command_where is_symtab cs in
     record {
-      rebase = part_in b info 1 8 12;
-      bind = part_in b info 1 16 20;
-      weak = part_in b info 1 24 28;
-      lazy = part_in b info 1 32 36;
-      exports = part_in b info 1 40 44;
-      split = option_map (λ c. part_in b (Some c) 1 8 12) split;
-      function_starts = part_in b (command_where is_function_starts cs) 1 8 12;
-      data_in_code = part_in b (command_where is_data_in_code cs) 1 8 12;
-      symbols = part_in b symtab 16 8 12;
-      strings = part_in b symtab 1 16 20;
-      indirect = part_in b (command_where is_dysymtab cs) 4 56 60;
+      rebase = part_in b info 1 dyld_info_rebase_off dyld_info_rebase_size;
+      bind = part_in b info 1 dyld_info_bind_off dyld_info_bind_size;
+      weak = part_in b info 1 dyld_info_weak_bind_off dyld_info_weak_bind_size;
+      lazy = part_in b info 1 dyld_info_lazy_bind_off dyld_info_lazy_bind_size;
+      exports = part_in b info 1 dyld_info_export_off dyld_info_export_size;
+      split = option_map (λ c. part_in b (Some c) 1 linkedit_data_dataoff linkedit_data_datasize) split;
+      function_starts = part_in b (command_where is_function_starts cs) 1 linkedit_data_dataoff linkedit_data_datasize;
+      data_in_code = part_in b (command_where is_data_in_code cs) 1 linkedit_data_dataoff linkedit_data_datasize;
+      symbols = part_in b symtab 16 symtab_symoff symtab_nsyms;
+      strings = part_in b symtab 1 symtab_stroff symtab_strsize;
+      indirect = part_in b (command_where is_dysymtab cs) 4 dysymtab_indirectsymoff dysymtab_nindirectsyms;
     }
 
 -- dysymtab_command: the first index and the count of local, external and undefined symbols
 abbrev pub groups_of : Option (List ℕ) → List ℕ
 groups_of None = 0 ∷ 0 ∷ 0 ∷ 0 ∷ 0 ∷ 0 ∷ []
-groups_of (Some c) = number_at 4 c 8 ∷ number_at 4 c 12 ∷ number_at 4 c 16 ∷ number_at 4 c 20 ∷ number_at 4 c 24 ∷ number_at 4 c 28 ∷ []
+groups_of (Some c) = number_at 4 c dysymtab_ilocalsym ∷ number_at 4 c dysymtab_nlocalsym ∷ number_at 4 c dysymtab_iextdefsym ∷ number_at 4 c dysymtab_nextdefsym ∷ number_at 4 c dysymtab_iundefsym ∷ number_at 4 c dysymtab_nundefsym ∷ []
 
 -- uuid_command
 abbrev pub uuid_of : Option (List ℕ) → List ℕ
 uuid_of None = replicate 16 0
-uuid_of (Some c) = take 16 (drop 8 c)
+uuid_of (Some c) = take 16 (drop uuid_uuid c)
 
 abbrev pub install_name_of : Option (List ℕ) → List ℕ
 install_name_of None = []

@@ -5,14 +5,10 @@ use Rattle.dsc_base.specs.Numbers.{number_at}
 use lib.Pointwise.{pointwise}
 use Rattle.macho_image.specs.declared.form.Form.{Form}
 use Rattle.macho_image.specs.declared.form.Form.TheVariants.{Standalone, Cached}
+use Rattle.macho_image.specs.Format.{header_magic, header_cputype, header_filetype, header_ncmds, header_sizeofcmds, header_flags, size_of_header, size_of_segment_command, size_of_section, dyld_info_rebase_off, dyld_info_rebase_size, dyld_info_bind_off, dyld_info_bind_size, dyld_info_weak_bind_off, dyld_info_weak_bind_size, dyld_info_lazy_bind_off, dyld_info_lazy_bind_size, dyld_info_export_off, dyld_info_export_size, linkedit_data_dataoff, linkedit_data_datasize, symtab_symoff, symtab_nsyms, symtab_stroff, symtab_strsize, dysymtab_indirectsymoff, dysymtab_nindirectsyms, dysymtab_nextrel, dysymtab_nlocrel, dylib_name_offset}
 use Rattle.macho_image.specs.Records.{Seg, Load, SegmentLoad, SectionLoad}
 use Rattle.macho_image.specs.Macho.{header_size, number_of, size_of, is_segment, is_install_name, is_uuid, is_symtab, is_dysymtab, is_dyld_info, is_split_info, is_function_starts, is_data_in_code, is_dylib, dylib_name}
-
--- the lower of two places
-abbrev pub least : Option ℕ → Option ℕ → Option ℕ
-least None other = other
-least (Some a) None = Some a
-least (Some a) (Some b) = Some (min a b)
+use Rattle.dsc_base.specs.Refusals.{least}
 
 -- the place of the first command, or of the first segment command, that passes a test
 abbrev pub first_load : (Load → Bool) → List Load → Option ℕ
@@ -27,7 +23,7 @@ same_bytes xs ys = pointwise nat_eq xs ys
 
 -- Rule 3: the header is not there, or has another magic.
 abbrev pub breaks_not_mach_o : List ℕ → Option ℕ
-breaks_not_mach_o header = if nat_lt (length header) 32 || not (nat_eq (number_at 4 header 0) 0xFEED_FACF) then Some 0 else None
+breaks_not_mach_o header = if nat_lt (length header) size_of_header || not (nat_eq (number_at 4 header header_magic) 0xFEED_FACF) then Some 0 else None
 
 -- Rule 5: another processor, another type of file, or flags that don't say MH_TWOLEVEL and the form.
 abbrev pub says_cached : ℕ → Bool
@@ -39,9 +35,9 @@ flags_fit Cached flags = nat_eq (flags / 0x80 % 2) 1 && says_cached flags
 
 abbrev pub breaks_wrong_kind : Form → List ℕ → Option ℕ
 breaks_wrong_kind form header =
-    if not (nat_eq (number_at 4 header 4) 0x0100_0007) then Some 4 else
-    (if not (nat_eq (number_at 4 header 12) 6) then Some 12 else
-    (if not (flags_fit form (number_at 4 header 24)) then Some 24 else None))
+    if not (nat_eq (number_at 4 header header_cputype) 0x0100_0007) then Some header_cputype else
+    (if not (nat_eq (number_at 4 header header_filetype) 6) then Some header_filetype else
+    (if not (flags_fit form (number_at 4 header header_flags)) then Some header_flags else None))
 
 -- Rule 6: the commands end past the bytes; or one is misshapen; or they don't end where sizeofcmds says.
 abbrev pub is_linkedit_data : ℕ → Bool
@@ -65,13 +61,13 @@ begins_whole bytes =
     && (nat_le (size_of bytes) (length bytes) && nat_le (least_size (number_of bytes)) (size_of bytes))))
 
 abbrev pub misshapen : ℕ → ℕ → List ℕ → Option ℕ
-misshapen zero at bytes = if nat_eq (length bytes) 0 then None else Some 20
+misshapen zero at bytes = if nat_eq (length bytes) 0 then None else Some header_sizeofcmds
 misshapen (suc n) at bytes =
     if begins_whole bytes then misshapen n (at + size_of bytes) (drop (size_of bytes) bytes) else Some at
 
 abbrev pub breaks_command_shape : List ℕ → Option ℕ
 breaks_command_shape header =
-    if nat_lt (length header) (header_size header) then Some 20 else misshapen (number_at 4 header 16) 32 (drop 32 header)
+    if nat_lt (length header) (header_size header) then Some header_sizeofcmds else misshapen (number_at 4 header header_ncmds) size_of_header (drop size_of_header header)
 
 -- Rule 7: a command that isn't known.
 abbrev pub is_known : ℕ → Bool
@@ -104,8 +100,11 @@ abbrev pub breaks_no_install_name : List Load → Option ℕ
 breaks_no_install_name ls = if list_any (λ l. is_install_name (number_of l.bytes)) ls then None else Some 0
 
 -- Rule 10, as far as the header tells: fewer than two segments; a segment of bad shape, or one that shares an address with an earlier one; `__TEXT` and `__LINKEDIT` not in their places.
+abbrev pub is_text_name : List ℕ → Bool
+is_text_name name = same_bytes name (codes "__TEXT" ++ (0 ∷ 0 ∷ 0 ∷ 0 ∷ 0 ∷ 0 ∷ 0 ∷ 0 ∷ 0 ∷ 0 ∷ []))
+
 abbrev pub is_text : SegmentLoad → Bool
-is_text s = same_bytes s.name (codes "__TEXT" ++ (0 ∷ 0 ∷ 0 ∷ 0 ∷ 0 ∷ 0 ∷ 0 ∷ 0 ∷ 0 ∷ 0 ∷ []))
+is_text s = is_text_name s.name
 
 abbrev pub is_linkedit_name : List ℕ → Bool
 is_linkedit_name name = same_bytes name (codes "__LINKEDIT" ++ (0 ∷ 0 ∷ 0 ∷ 0 ∷ 0 ∷ 0 ∷ []))
@@ -119,7 +118,7 @@ is_linkedit_segment s = is_linkedit_name s.name
 
 abbrev pub is_well_shaped : SegmentLoad → Bool
 is_well_shaped s =
-    nat_eq s.size (72 + 80 * s.nsects) && (nat_eq (s.vmaddr % 4096) 0 && (nat_le s.filesize s.vmsize && nat_le (s.vmaddr + s.vmsize) 0x8000_0000_0000))
+    nat_eq s.size (size_of_segment_command + size_of_section * s.nsects) && (nat_eq (s.vmaddr % 4096) 0 && (nat_le s.filesize s.vmsize && nat_le (s.vmaddr + s.vmsize) 0x8000_0000_0000))
 
 abbrev pub shares_address : SegmentLoad → SegmentLoad → Bool
 shares_address s t = nat_lt (max s.vmaddr t.vmaddr) (min (s.vmaddr + s.vmsize) (t.vmaddr + t.vmsize))
@@ -207,7 +206,7 @@ breaks_interposing ss = first_segment (λ s. list_any (λ x. nat_eq (section_typ
 
 -- Rule 14: relocations of a section, or those of LC_DYSYMTAB.
 abbrev pub names_relocations : Load → Bool
-names_relocations l = is_dysymtab (number_of l.bytes) && not (nat_eq (number_at 4 l.bytes 68) 0 && nat_eq (number_at 4 l.bytes 76) 0)
+names_relocations l = is_dysymtab (number_of l.bytes) && not (nat_eq (number_at 4 l.bytes dysymtab_nextrel) 0 && nat_eq (number_at 4 l.bytes dysymtab_nlocrel) 0)
 
 abbrev pub breaks_has_relocations : List SegmentLoad → List Load → Option ℕ
 breaks_has_relocations ss ls =
@@ -220,7 +219,7 @@ is_printable x = nat_le 0x20 x && nat_le x 0x7E
 
 abbrev pub is_plain_name : List ℕ → Bool
 is_plain_name c =
-    nat_le 24 (number_at 4 c 8) && (nat_lt (number_at 4 c 8 + length (dylib_name c)) (length c)
+    nat_le 24 (number_at 4 c dylib_name_offset) && (nat_lt (number_at 4 c dylib_name_offset + length (dylib_name c)) (length c)
     && (nat_le 1 (length (dylib_name c)) && (nat_le (length (dylib_name c)) 1024 && list_all is_printable (dylib_name c))))
 
 abbrev pub breaks_name_text : List Load → Option ℕ
@@ -247,7 +246,8 @@ leaves low high c entry offset size = leaves_range low high (number_at 4 c offse
 
 abbrev pub info_leaves : ℕ → ℕ → List ℕ → Bool
 info_leaves low high c =
-    leaves low high c 1 8 12 || (leaves low high c 1 16 20 || (leaves low high c 1 24 28 || (leaves low high c 1 32 36 || leaves low high c 1 40 44)))
+    leaves low high c 1 dyld_info_rebase_off dyld_info_rebase_size || (leaves low high c 1 dyld_info_bind_off dyld_info_bind_size || (leaves low high c 1 dyld_info_weak_bind_off dyld_info_weak_bind_size
+    || (leaves low high c 1 dyld_info_lazy_bind_off dyld_info_lazy_bind_size || leaves low high c 1 dyld_info_export_off dyld_info_export_size)))
 
 abbrev pub is_data_stream : ℕ → Bool
 is_data_stream n = is_split_info n || (is_function_starts n || is_data_in_code n)
@@ -255,9 +255,9 @@ is_data_stream n = is_split_info n || (is_function_starts n || is_data_in_code n
 abbrev pub names_outside : ℕ → ℕ → List ℕ → Bool
 names_outside low high c =
     if is_dyld_info (number_of c) then info_leaves low high c else
-    (if is_symtab (number_of c) then leaves low high c 16 8 12 || leaves low high c 1 16 20 else
-    (if is_dysymtab (number_of c) then leaves low high c 4 56 60 else
-    (if is_data_stream (number_of c) then leaves low high c 1 8 12 else false)))
+    (if is_symtab (number_of c) then leaves low high c 16 symtab_symoff symtab_nsyms || leaves low high c 1 symtab_stroff symtab_strsize else
+    (if is_dysymtab (number_of c) then leaves low high c 4 dysymtab_indirectsymoff dysymtab_nindirectsyms else
+    (if is_data_stream (number_of c) then leaves low high c 1 linkedit_data_dataoff linkedit_data_datasize else false)))
 
 abbrev pub outside_of : Option SegmentLoad → List Load → Option ℕ
 outside_of None ls = None

@@ -1,8 +1,15 @@
 // Parts of bytes, and numbers at places that are known to lie inside.
-ghost use Rattle.std.specs.Prelude.{◌≡◌, ◌+◌, ◌≤◌, ℕ, length, take, drop};
+ghost use Rattle.std.specs.Prelude.{◌≡◌, ◌+◌, ◌≤◌, ◌<◌, ℕ, length, take, drop, slice_index};
 ghost use Rattle.dsc_base.specs.Numbers.{number_at};
 
 use dsc_base::{read_u32, read_u64};
+
+/// Does nothing; its contract tells what is true of each slice of bytes.
+pub(crate) fn are_bytes(bytes: &[u8])
+    ensures { (k : ℕ) → slice_index bytes.now k < 256 }
+{
+    let _ = bytes;
+}
 
 pub(crate) fn number32(bytes: &[u8], at: usize) -> u32
     requires { at + 4 ≤ length bytes.now }

@@ -4,19 +4,21 @@ ghost use Rattle.dsc_base.specs.declared.fault.Fault.TheVariants as faults;
 ghost use Rattle.dsc_base.specs.declared.rule.Rule.TheVariants.{CommandShape};
 ghost use Rattle.macho_image.specs.Macho.{loads_of, size_of};
 ghost use Rattle.macho_image.specs.Rules.{begins_whole, breaks_command_shape};
-ghost use Rattle.macho_image.specs.Breaks.{broken};
-ghost use Rattle.macho_image.specs.Refuses.{Refuses};
+ghost use Rattle.dsc_base.specs.Refusals.{broken, Refuses};
 
 use crate::bytes::{behind, number32};
+use crate::format::{
+    COMMAND_CMD, COMMAND_CMDSIZE, HEADER_NCMDS, HEADER_SIZEOFCMDS, SIZE_OF_HEADER,
+};
 use crate::numbers::least_size;
 use dsc_base::{Fault, Rule, Site};
 use std::alloc::Global;
 use std::marker::Model;
 
-/// A load command: its offset from the start of the header, its number, and its bytes, which are at
-/// least as many as its structure has.
+/// A load command: its offset in bytes from the start of the header, its number, and its bytes, which are
+/// at least as many as its structure has.
 #[derive(Drop)]
-pub(crate) struct Command<'a> {
+pub struct Command<'a> {
     pub at: u64,
     pub number: u32,
     pub bytes: &'a [u8],
@@ -41,11 +43,11 @@ fn whole_size(bytes: &[u8]) -> Option<usize>
     if bytes.len() < 8 {
         return None;
     }
-    let size = number32(bytes, 4) as usize;
+    let size = number32(bytes, COMMAND_CMDSIZE) as usize;
     let is_whole = size >= 8
         && size % 8 == 0
         && size <= bytes.len()
-        && least_size(number32(bytes, 0)) as usize <= size;
+        && least_size(number32(bytes, COMMAND_CMD)) as usize <= size;
     if is_whole { Some(size) } else { None }
 }
 
@@ -57,14 +59,14 @@ pub(crate) fn read_commands<'a>(alloc: Global, header: &'a [u8]) -> Result<Vec<C
     ensures found { IfOk result (λ v. v.items ≡ loads_of header.entry.now) }
     ensures cause { Refuses (broken CommandShape (breaks_command_shape header.entry.now)) result }
 {
-    let size = 32 + u64::from(number32(header, 20));
+    let size = SIZE_OF_HEADER as u64 + u64::from(number32(header, HEADER_SIZEOFCMDS));
     if (header.len() as u64) < size {
-        return Err(misshapen(20));
+        return Err(misshapen(HEADER_SIZEOFCMDS as u64));
     }
-    let count = number32(header, 16);
+    let count = number32(header, HEADER_NCMDS);
     let mut commands = Vec::new(alloc);
-    let mut rest = behind(header, 32);
-    let mut at = 32;
+    let mut rest = behind(header, SIZE_OF_HEADER as u64);
+    let mut at = SIZE_OF_HEADER as u64;
     for _ in 0..count {
         let Some(size) = whole_size(rest) else {
             return Err(misshapen(at));
@@ -72,14 +74,14 @@ pub(crate) fn read_commands<'a>(alloc: Global, header: &'a [u8]) -> Result<Vec<C
         let (bytes, later) = rest.split_at(size);
         commands.push(Command {
             at,
-            number: number32(bytes, 0),
+            number: number32(bytes, COMMAND_CMD),
             bytes,
         })?;
         at += size as u64;
         rest = later;
     }
     if !rest.is_empty() {
-        return Err(misshapen(20));
+        return Err(misshapen(HEADER_SIZEOFCMDS as u64));
     }
     Ok(commands)
 }

@@ -2,18 +2,21 @@
 ghost use Rattle.std.specs.Prelude.{◌≡◌, ◌≤◌, length, IfOk, OnOk};
 ghost use Rattle.macho_image.specs.Macho.{header_in, loads_of};
 ghost use Rattle.macho_image.specs.Rules.{breaks_not_mach_o, breaks_wrong_kind, flags_fit};
-ghost use Rattle.macho_image.specs.Breaks.{broken, kind_break};
-ghost use Rattle.macho_image.specs.Refuses.{Refuses};
+ghost use Rattle.macho_image.specs.Breaks.{kind_break};
+ghost use Rattle.dsc_base.specs.Refusals.{broken, Refuses};
 
 use crate::Form;
 use crate::bytes::{behind, front, number32};
 use crate::command::{Command, read_commands};
+use crate::format::{
+    HEADER_CPUTYPE, HEADER_FILETYPE, HEADER_FLAGS, HEADER_MAGIC, HEADER_SIZEOFCMDS, SIZE_OF_HEADER,
+};
 use dsc_base::{Fault, Rule, Site, read_u32};
 use std::alloc::Global;
 
 const MH_MAGIC_64: u32 = 0xFEED_FACF;
 
-const CPU_TYPE_X86_64: u32 = 0x0100_0007;
+pub(crate) const CPU_TYPE_X86_64: u32 = 0x0100_0007;
 
 const MH_DYLIB: u32 = 6;
 
@@ -27,16 +30,17 @@ pub(crate) fn header_in<'a>(bytes: &'a [u8], at: u64) -> &'a [u8]
     ensures { result.now ≡ header_in bytes.entry.now at }
 {
     let slice = behind(bytes, at);
-    match read_u32(slice, 20) {
-        Some(size) => front(slice, 32 + u64::from(size)),
+    match read_u32(slice, HEADER_SIZEOFCMDS) {
+        Some(size) => front(slice, SIZE_OF_HEADER as u64 + u64::from(size)),
         None => slice,
     }
 }
 
-fn not_mach_o(header: &[u8]) -> Option<u64>
+/// The place of a magic that isn't there.
+pub(crate) fn not_mach_o(header: &[u8]) -> Option<u64>
     ensures { result ≡ breaks_not_mach_o header.now }
 {
-    if header.len() < 32 || number32(header, 0) != MH_MAGIC_64 {
+    if header.len() < SIZE_OF_HEADER || number32(header, HEADER_MAGIC) != MH_MAGIC_64 {
         Some(0)
     } else {
         None
@@ -59,12 +63,12 @@ fn wrong_kind(header: &[u8], form: Form) -> Option<u64>
     requires { 32 ≤ length header.now }
     ensures { result ≡ breaks_wrong_kind form header.now }
 {
-    if number32(header, 4) != CPU_TYPE_X86_64 {
-        Some(4)
-    } else if number32(header, 12) != MH_DYLIB {
-        Some(12)
-    } else if !has_good_flags(number32(header, 24), form) {
-        Some(24)
+    if number32(header, HEADER_CPUTYPE) != CPU_TYPE_X86_64 {
+        Some(HEADER_CPUTYPE as u64)
+    } else if number32(header, HEADER_FILETYPE) != MH_DYLIB {
+        Some(HEADER_FILETYPE as u64)
+    } else if !has_good_flags(number32(header, HEADER_FLAGS), form) {
+        Some(HEADER_FLAGS as u64)
     } else {
         None
     }

@@ -1,8 +1,9 @@
 // An image: what a dylib's header spells, and the parts of its file that the header names.
 ghost use Rattle.std.specs.Prelude.{◌≡◌};
 ghost use Rattle.macho_image.specs.Rules.{is_linkedit_segment};
+ghost use Rattle.macho_image.specs.Segments.{is_text_segment};
 
-use crate::segment::LINKEDIT;
+use crate::segment::{LINKEDIT, TEXT};
 use crate::{LinkKind, Section};
 use std::marker::Model;
 
@@ -29,6 +30,14 @@ impl<'a> Model for Segment<'a> {
 }
 
 impl<'a> Segment<'a> {
+    /// Whether this is `__TEXT`, the segment that begins with the header.
+    #[tactic(auto, unfolding(crate::specs::Segments::is_text_segment))]
+    pub fn is_text(&self) -> bool
+        ensures { result ≡ is_text_segment self.now }
+    {
+        self.name == TEXT
+    }
+
     /// Whether this is `__LINKEDIT`, the segment of the streams and tables.
     pub fn is_linkedit(&self) -> bool
         ensures { result ≡ is_linkedit_segment self.now }
@@ -79,8 +88,8 @@ impl<'a> Model for Streams<'a> {
 }
 
 /// A dylib that was read whole. Its install name, segments, sections, dependencies, groups and
-/// identifier are those that its `header` spells, which breaks no rule, and each segment has as many
-/// bytes as its filesize. `header` is the Mach header with all commands; `groups` is the first six index
+/// identifier are those that its `header` spells, which breaks no rule; a file of its own begins with its
+/// first segment, and each segment has as many bytes as its filesize. `header` is the Mach header with all commands; `groups` is the first six index
 /// fields of LC_DYSYMTAB, and `uuid` the one of LC_UUID, zeros where the command is absent. Each slice is a
 /// part of the bytes that were read.
 #[derive(Drop)]

@@ -1,10 +1,10 @@
 // The rules on which commands stand in a header.
 ghost use Rattle.std.specs.Prelude.{◌≡◌};
 ghost use Rattle.std.specs.List.{list_any};
-ghost use Rattle.macho_image.specs.Rules.{breaks_unknown_command, breaks_command_twice, breaks_no_install_name, is_of_kind, least, second_of};
+ghost use Rattle.macho_image.specs.Rules.{breaks_unknown_command, breaks_command_twice, breaks_no_install_name, is_of_kind, second_of};
+ghost use Rattle.dsc_base.specs.Refusals.{least, Refuses};
 ghost use Rattle.macho_image.specs.Macho.{is_install_name, number_of};
 ghost use Rattle.macho_image.specs.Breaks.{command_break};
-ghost use Rattle.macho_image.specs.Refuses.{Refuses};
 
 use crate::command::Command;
 use crate::header::refuse;

@@ -4,10 +4,11 @@ ghost use Rattle.std.specs.List.{before_first, list_all, slice_split};
 ghost use Rattle.macho_image.specs.Macho as spec;
 ghost use Rattle.macho_image.specs.Rules as rules;
 ghost use Rattle.macho_image.specs.Breaks.{name_break};
-ghost use Rattle.macho_image.specs.Refuses.{Refuses};
+ghost use Rattle.dsc_base.specs.Refusals.{Refuses};
 
 use crate::bytes::{behind, front, number32};
 use crate::command::Command;
+use crate::format::DYLIB_NAME_OFFSET;
 use crate::header::refuse;
 use crate::numbers::{LC_ID_DYLIB, is_dylib};
 use dsc_base::{Fault, Rule};
@@ -36,7 +37,7 @@ pub(crate) fn dylib_name<'a>(bytes: &'a [u8]) -> &'a [u8]
     requires { 24 ≤ length bytes.now }
     ensures { result.now ≡ spec.dylib_name bytes.entry.now }
 {
-    let offset = number32(bytes, 8);
+    let offset = number32(bytes, DYLIB_NAME_OFFSET);
     before_nul(behind(bytes, u64::from(offset)))
 }
 
@@ -50,7 +51,7 @@ fn is_plain_name(bytes: &[u8]) -> bool
     requires { 24 ≤ length bytes.now }
     ensures { result ≡ rules.is_plain_name bytes.now }
 {
-    let offset = number32(bytes, 8);
+    let offset = number32(bytes, DYLIB_NAME_OFFSET);
     let name = dylib_name(bytes);
     offset >= 24
         && u64::from(offset) + (name.len() as u64) < bytes.len() as u64

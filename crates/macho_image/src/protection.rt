@@ -3,10 +3,11 @@ ghost use Rattle.std.specs.Prelude.{◌≡◌, ◌&&◌, not, nat_eq};
 ghost use Rattle.std.specs.List.{list_any};
 ghost use Rattle.macho_image.specs.Rules as rules;
 ghost use Rattle.macho_image.specs.Breaks.{section_break};
-ghost use Rattle.macho_image.specs.Refuses.{Refuses};
+ghost use Rattle.dsc_base.specs.Refusals.{Refuses};
 
 use crate::bytes::number32;
 use crate::command::Command;
+use crate::format::{DYSYMTAB_NEXTREL, DYSYMTAB_NLOCREL};
 use crate::header::refuse;
 use crate::kinds::least;
 use crate::numbers::LC_DYSYMTAB;
@@ -80,7 +81,8 @@ fn names_relocations(command: &Command<'_>) -> bool
     ensures { result ≡ rules.names_relocations command.now }
 {
     command.number == LC_DYSYMTAB
-        && !(number32(command.bytes, 68) == 0 && number32(command.bytes, 76) == 0)
+        && !(number32(command.bytes, DYSYMTAB_NEXTREL) == 0
+            && number32(command.bytes, DYSYMTAB_NLOCREL) == 0)
 }
 
 fn relocating_table(commands: &[Command<'_>]) -> Option<u64>

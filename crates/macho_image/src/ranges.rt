@@ -4,6 +4,13 @@ ghost use Rattle.macho_image.specs.Rules as rules;
 
 use crate::bytes::number32;
 use crate::command::Command;
+use crate::format::{
+    DYLD_INFO_BIND_OFF, DYLD_INFO_BIND_SIZE, DYLD_INFO_EXPORT_OFF, DYLD_INFO_EXPORT_SIZE,
+    DYLD_INFO_LAZY_BIND_OFF, DYLD_INFO_LAZY_BIND_SIZE, DYLD_INFO_REBASE_OFF, DYLD_INFO_REBASE_SIZE,
+    DYLD_INFO_WEAK_BIND_OFF, DYLD_INFO_WEAK_BIND_SIZE, DYSYMTAB_INDIRECTSYMOFF,
+    DYSYMTAB_NINDIRECTSYMS, LINKEDIT_DATA_DATAOFF, LINKEDIT_DATA_DATASIZE, SYMTAB_NSYMS,
+    SYMTAB_STROFF, SYMTAB_STRSIZE, SYMTAB_SYMOFF,
+};
 use crate::numbers::{
     LC_DATA_IN_CODE, LC_DYSYMTAB, LC_FUNCTION_STARTS, LC_SEGMENT_SPLIT_INFO, LC_SYMTAB,
     is_dyld_info,
@@ -33,11 +40,34 @@ fn info_leaves(bounds: Bounds, bytes: &[u8]) -> bool
     requires { 48 ≤ length bytes.now }
     ensures { result ≡ rules.info_leaves bounds.low bounds.high bytes.now }
 {
-    leaves(bounds, bytes, 1, 8, 12)
-        || leaves(bounds, bytes, 1, 16, 20)
-        || leaves(bounds, bytes, 1, 24, 28)
-        || leaves(bounds, bytes, 1, 32, 36)
-        || leaves(bounds, bytes, 1, 40, 44)
+    leaves(
+        bounds,
+        bytes,
+        1,
+        DYLD_INFO_REBASE_OFF,
+        DYLD_INFO_REBASE_SIZE,
+    ) || leaves(bounds, bytes, 1, DYLD_INFO_BIND_OFF, DYLD_INFO_BIND_SIZE)
+        || leaves(
+            bounds,
+            bytes,
+            1,
+            DYLD_INFO_WEAK_BIND_OFF,
+            DYLD_INFO_WEAK_BIND_SIZE,
+        )
+        || leaves(
+            bounds,
+            bytes,
+            1,
+            DYLD_INFO_LAZY_BIND_OFF,
+            DYLD_INFO_LAZY_BIND_SIZE,
+        )
+        || leaves(
+            bounds,
+            bytes,
+            1,
+            DYLD_INFO_EXPORT_OFF,
+            DYLD_INFO_EXPORT_SIZE,
+        )
 }
 
 fn names_outside(command: &Command<'_>, bounds: Bounds) -> bool
@@ -45,10 +75,21 @@ fn names_outside(command: &Command<'_>, bounds: Bounds) -> bool
 {
     let bytes = command.bytes;
     match command.number {
-        LC_SYMTAB => leaves(bounds, bytes, 16, 8, 12) || leaves(bounds, bytes, 1, 16, 20),
-        LC_DYSYMTAB => leaves(bounds, bytes, 4, 56, 60),
+        LC_SYMTAB => leaves(bounds, bytes, 16, SYMTAB_SYMOFF, SYMTAB_NSYMS)
+            || leaves(bounds, bytes, 1, SYMTAB_STROFF, SYMTAB_STRSIZE),
+        LC_DYSYMTAB => leaves(
+            bounds,
+            bytes,
+            4,
+            DYSYMTAB_INDIRECTSYMOFF,
+            DYSYMTAB_NINDIRECTSYMS,
+        ),
         LC_SEGMENT_SPLIT_INFO | LC_FUNCTION_STARTS | LC_DATA_IN_CODE => leaves(
-            bounds, bytes, 1, 8, 12,
+            bounds,
+            bytes,
+            1,
+            LINKEDIT_DATA_DATAOFF,
+            LINKEDIT_DATA_DATASIZE,
         ),
         number => is_dyld_info(number) && info_leaves(bounds, bytes),
     }

@@ -2,13 +2,15 @@
 ghost use Rattle.std.specs.Prelude.{◌≡◌, ◌<◌, ◌^◌, None, Some, length, IfOk, IfErr};
 ghost use Rattle.dsc_base.specs.declared.fault.Fault.TheVariants as faults;
 ghost use Rattle.macho_image.specs.Macho as spec;
+ghost use Rattle.macho_image.specs.declared.form.Form.TheVariants.{Standalone};
 ghost use Rattle.macho_image.specs.Breaks.{image_break, image_at, load_break, IsSound};
-ghost use Rattle.macho_image.specs.Refuses.{Refuses};
+ghost use Rattle.dsc_base.specs.Refusals.{Refuses};
 
 use crate::bytes::number32;
 use crate::command::Command;
 use crate::contents::{dependencies, sections, segments};
 use crate::form::Form;
+use crate::format::{HEADER_SIZEOFCMDS, SIZE_OF_HEADER};
 use crate::header::{header_in, read_header, refuse};
 use crate::image::Image;
 use crate::kinds::check_kinds;
@@ -73,8 +75,8 @@ fn check_loads(
     refuse(Rule::LinkeditRange, linkedit_range(loads, commands))
 }
 
-/// The image that the bytes spell with its header at a place, in one of the two forms. A file of its own
-/// has its header at 0; in a cache, file offsets count from the start of the bytes. The format is that
+/// The image that the bytes spell with its header at a place, in one of the two forms. A file of its own,
+/// or its slice, has its header at 0; in a cache, file offsets count from the start of the bytes. The format is that
 /// of `mach-o/loader.h`.
 ///
 /// Refuses the first of the rules from `NotMachO` to `LinkeditRange`, but for `NoSlice`, that the image
@@ -85,6 +87,7 @@ pub fn read_image<'a>(
     header_at: u64,
     form: Form,
 ) -> Result<Image<'a>, Fault>
+    requires { form ≡ Standalone → header_at ≡ 0 }
     ensures image { IfOk result (λ image. image_at form bytes.entry.now header_at ≡ Some image) }
     ensures cause { Refuses (image_break form bytes.entry.now header_at) result }
 {
@@ -92,7 +95,7 @@ pub fn read_image<'a>(
     let commands = read_header(alloc, header, form)?;
     check_kinds(&commands)?;
     let loads = read_segments(alloc, &commands)?;
-    let size = 32 + u64::from(number32(header, 20));
+    let size = SIZE_OF_HEADER as u64 + u64::from(number32(header, HEADER_SIZEOFCMDS));
     check_loads(
         alloc,
         &commands,

@@ -6,6 +6,12 @@ ghost use Rattle.macho_image.specs.Rules.{is_text, is_linkedit};
 
 use crate::bytes::{behind, number32, number64, sixteen};
 use crate::command::Command;
+use crate::format::{
+    SECTION_ADDR, SECTION_FLAGS, SECTION_NRELOC, SECTION_OFFSET, SECTION_SECTNAME, SECTION_SEGNAME,
+    SECTION_SIZE, SEGMENT_FILEOFF, SEGMENT_FILESIZE, SEGMENT_FLAGS, SEGMENT_INITPROT,
+    SEGMENT_MAXPROT, SEGMENT_NSECTS, SEGMENT_SEGNAME, SEGMENT_VMADDR, SEGMENT_VMSIZE,
+    SIZE_OF_SECTION, SIZE_OF_SEGMENT_COMMAND,
+};
 use crate::numbers::LC_SEGMENT_64;
 use crate::section::SectionFields;
 use dsc_base::Fault;
@@ -44,13 +50,13 @@ fn section_fields(bytes: &[u8]) -> SectionFields
     ensures { result ≡ section_fields bytes.now }
 {
     SectionFields {
-        name: sixteen(bytes, 0),
-        segment_name: sixteen(bytes, 16),
-        addr: number64(bytes, 32),
-        size: number64(bytes, 40),
-        offset: number32(bytes, 48),
-        nreloc: number32(bytes, 60),
-        flags: number32(bytes, 64),
+        name: sixteen(bytes, SECTION_SECTNAME),
+        segment_name: sixteen(bytes, SECTION_SEGNAME),
+        addr: number64(bytes, SECTION_ADDR),
+        size: number64(bytes, SECTION_SIZE),
+        offset: number32(bytes, SECTION_OFFSET),
+        nreloc: number32(bytes, SECTION_NRELOC),
+        flags: number32(bytes, SECTION_FLAGS),
     }
 }
 
@@ -63,7 +69,7 @@ fn read_sections(alloc: Global, bytes: &[u8], count: usize) -> Result<Vec<Sectio
     let mut rest = bytes;
     for _ in 0..count {
         sections.push(section_fields(rest))?;
-        rest = behind(rest, 80);
+        rest = behind(rest, SIZE_OF_SECTION as u64);
     }
     Ok(sections)
 }
@@ -75,19 +81,23 @@ fn read_segment(alloc: Global, command: &Command<'_>) -> Result<SegmentCommand, 
     ensures cause { IfErr result (λ e. e ≡ faults.Memory) }
 {
     let bytes = command.bytes;
-    let sections = read_sections(alloc, behind(bytes, 72), (bytes.len() - 72) / 80)?;
+    let sections = read_sections(
+        alloc,
+        behind(bytes, SIZE_OF_SEGMENT_COMMAND as u64),
+        (bytes.len() - SIZE_OF_SEGMENT_COMMAND) / SIZE_OF_SECTION,
+    )?;
     Ok(SegmentCommand {
         at: command.at,
         size: bytes.len() as u64,
-        name: sixteen(bytes, 8),
-        vmaddr: number64(bytes, 24),
-        vmsize: number64(bytes, 32),
-        fileoff: number64(bytes, 40),
-        filesize: number64(bytes, 48),
-        maxprot: number32(bytes, 56),
-        initprot: number32(bytes, 60),
-        nsects: number32(bytes, 64),
-        flags: number32(bytes, 68),
+        name: sixteen(bytes, SEGMENT_SEGNAME),
+        vmaddr: number64(bytes, SEGMENT_VMADDR),
+        vmsize: number64(bytes, SEGMENT_VMSIZE),
+        fileoff: number64(bytes, SEGMENT_FILEOFF),
+        filesize: number64(bytes, SEGMENT_FILESIZE),
+        maxprot: number32(bytes, SEGMENT_MAXPROT),
+        initprot: number32(bytes, SEGMENT_INITPROT),
+        nsects: number32(bytes, SEGMENT_NSECTS),
+        flags: number32(bytes, SEGMENT_FLAGS),
         sections,
     })
 }
@@ -109,7 +119,7 @@ pub(crate) fn read_segments(
     Ok(segments)
 }
 
-const TEXT: [u8; 16] = *b"__TEXT\0\0\0\0\0\0\0\0\0\0";
+pub(crate) const TEXT: [u8; 16] = *b"__TEXT\0\0\0\0\0\0\0\0\0\0";
 
 pub(crate) const LINKEDIT: [u8; 16] = *b"__LINKEDIT\0\0\0\0\0\0";
 

@@ -2,7 +2,7 @@
 ghost use Rattle.std.specs.Prelude.{◌≡◌, ◌+◌, not, nat_lt, if◌then◌else◌, Some, None, IfOk, IfErr};
 ghost use Rattle.dsc_base.specs.declared.fault.Fault.TheVariants as faults;
 ghost use Rattle.macho_image.specs.Rules as rules;
-ghost use Rattle.macho_image.specs.Rules.{least};
+ghost use Rattle.dsc_base.specs.Refusals.{least};
 
 use crate::kinds::least;
 use crate::segment::{SegmentCommand, is_linkedit, is_text};

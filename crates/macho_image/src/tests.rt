@@ -1,5 +1,9 @@
 // Files that keep the rules, and for each rule files that break it, each made of one file by a few edits.
-ghost use Rattle.std.specs.Prelude.{◌≤◌};
+ghost use Rattle.std.specs.Prelude.{◌≡◌, ◌≤◌};
+ghost use Rattle.macho_image.specs.declared.form.Form.TheVariants.{Standalone};
+
+mod universal;
+mod walk;
 
 use super::*;
 use dsc_base::{Fault, put_u32};
@@ -291,7 +295,9 @@ fn file_with(alloc: Global, len: usize, numbers: &[(usize, u32)]) -> Result<Vec<
 }
 
 // The number and the place of the rule that a file breaks; none is 0.
-fn broken(alloc: Global, file: &[u8], header_at: u64, form: Form) -> Option<(u16, u64)> {
+fn broken(alloc: Global, file: &[u8], header_at: u64, form: Form) -> Option<(u16, u64)>
+    requires { form ≡ Standalone → header_at ≡ 0 }
+{
     match read_image(alloc, file, header_at, form) {
         Ok(_) => Some((0, 0)),
         Err(Fault::Broken(site)) => Some((site.rule.number(), site.at)),
@@ -368,10 +374,8 @@ fn rules(rt: HostRuntime) -> Result<(), Fail> {
         );
     }
     let cache = file_with(alloc, 0x4000, &CACHED)?;
-    assert_eq!(rt;
-        broken(alloc, &cache, 0x1000, Form::Standalone),
-        Some((5, 24))
-    );
+    let alone = cache.get(0x1000..).ok_or("the cache is longer than that")?;
+    assert_eq!(rt; broken(alloc, alone, 0, Form::Standalone), Some((5, 24)));
     assert_eq!(rt; broken(alloc, &cache, 0x4000, Form::Cached), Some((3, 0)));
     let image = read_image(alloc, &cache, 0x1000, Form::Cached)
         .ok()
@@ -391,6 +395,5 @@ fn rules(rt: HostRuntime) -> Result<(), Fail> {
     assert_eq!(rt; image.dependencies.len(), 0);
     assert_eq!(rt; image.streams.rebase, b"\x11\x21\x10\x51\x00".as_slice());
     assert_eq!(rt; image.streams.split, Some(b"\x7F\x00".as_slice()));
-    assert_eq!(rt; image.header.len(), 0x200);
     Ok(())
 }

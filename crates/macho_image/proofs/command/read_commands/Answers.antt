@@ -1,7 +1,7 @@
 use Rattle.std.proofs.Common.{arith, ◌≡◌, ◌≤◌, ◌+◌, ◌-◌, ◌∙◌, ap, sym, suc, ℕ, length, length-drop, Option}
 use Rattle.dsc_base.specs.declared.rule.Rule.TheVariants.{CommandShape}
 use Rattle.macho_image.specs.Macho.{header_size}
-use Rattle.macho_image.specs.Breaks.{broken}
+use Rattle.dsc_base.specs.Refusals.{broken}
 use Rattle.macho_image.proofs.Refusals.{refuses_broken}
 use Rattle.macho_image.proofs.Splitting.{split_start, split_more, size_answered, size_refused, whole_piece, shape_at}
 use Rattle.macho_image.proofs.command.read_commands.Goals as goal

@@ -1,5 +1,6 @@
 use Rattle.std.proofs.Common.{◌∙◌, ap, arith, Option, ℕ}
-use Rattle.macho_image.specs.Rules.{once_kinds, least}
+use Rattle.macho_image.specs.Rules.{once_kinds}
+use Rattle.dsc_base.specs.Refusals.{least}
 use Rattle.macho_image.proofs.Seconds.{second_kinds_step}
 use Rattle.macho_image.proofs.kinds.command_twice.Goals as goal
 

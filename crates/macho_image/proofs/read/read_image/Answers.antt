@@ -23,7 +23,7 @@ returns-in_err-check_loads-clause-cause c =
     let p = err_from_is_err_and c.from_residual-in_err-check_loads.result c.from_residual-in_err-check_loads.ensures.1 in
     let loads = c.deref-3.ensures.value ∙ c.in_ok-commands.ensures.found in
     let segments = c.deref-4.ensures.value ∙ (c.in_ok-loads.ensures.found ∙ ap segment_loads (c.deref-2.ensures.value ∙ sym c.deref-3.ensures.value)) in
-    let sized = ap (λ (n : ℕ). 32 + n) (c.from-size.ensures ∙ c.number32.ensures) in
+    let sized = ap (λ (n : ℕ). 32 + n) (c.from.ensures ∙ c.number32.ensures) in
     let kinds = ap command_break (c.deref-3.ensures.value ∙ sym c.deref.ensures.value) ∙ c.in_ok-check_kinds.ensures in
     rw (p.1, p.2) (refused_loads c.args.form c.args.bytes.now c.args.header_at _ _ _ _ _ c.header_in-header.ensures loads segments sized c.in_ok-commands.ensures.cause kinds c.in_err-check_loads.ensures)
 
@@ -36,16 +36,16 @@ pub make_image-requires-clause-sound : goal.make_image-requires-clause-sound
 make_image-requires-clause-sound c =
     let loads = c.deref-3.ensures.value ∙ c.in_ok-commands.ensures.found in
     let segments = c.deref-4.ensures.value ∙ (c.in_ok-loads.ensures.found ∙ ap segment_loads (c.deref-2.ensures.value ∙ sym c.deref-3.ensures.value)) in
-    let sized = ap (λ (n : ℕ). 32 + n) (c.from-size.ensures ∙ c.number32.ensures) in
+    let sized = ap (λ (n : ℕ). 32 + n) (c.from.ensures ∙ c.number32.ensures) in
     let kinds = ap command_break (c.deref-3.ensures.value ∙ sym c.deref.ensures.value) ∙ c.in_ok-check_kinds.ensures in
     let none = none_broken c.args.form c.args.bytes.now c.args.header_at _ _ _ _ c.header_in-header.ensures loads segments sized c.in_ok-commands.ensures.cause kinds c.in_ok-check_loads.ensures in
-    subst (λ (l : List ℕ). IsSound (image_from c.args.bytes.now l)) (sym c.header_in-header.ensures) (image_sound c.args.form c.args.bytes.now c.args.header_at none)
+    subst (λ (l : List ℕ). IsSound (image_from c.args.bytes.now l)) (sym c.header_in-header.ensures) (image_sound c.args.form c.args.bytes.now c.args.header_at c.requires none)
 
 pub returns-clause-image : goal.returns-clause-image
 returns-clause-image c =
     let loads = c.deref-3.ensures.value ∙ c.in_ok-commands.ensures.found in
     let segments = c.deref-4.ensures.value ∙ (c.in_ok-loads.ensures.found ∙ ap segment_loads (c.deref-2.ensures.value ∙ sym c.deref-3.ensures.value)) in
-    let sized = ap (λ (n : ℕ). 32 + n) (c.from-size.ensures ∙ c.number32.ensures) in
+    let sized = ap (λ (n : ℕ). 32 + n) (c.from.ensures ∙ c.number32.ensures) in
     let kinds = ap command_break (c.deref-3.ensures.value ∙ sym c.deref.ensures.value) ∙ c.in_ok-check_kinds.ensures in
     let none = none_broken c.args.form c.args.bytes.now c.args.header_at _ _ _ _ c.header_in-header.ensures loads segments sized c.in_ok-commands.ensures.cause kinds c.in_ok-check_loads.ensures in
     let image = c.in_ok-image.ensures.found ∙ ap (λ (l : List ℕ). image_from c.args.bytes.now l) c.header_in-header.ensures in
@@ -55,6 +55,6 @@ pub returns-clause-cause : goal.returns-clause-cause
 returns-clause-cause c =
     let loads = c.deref-3.ensures.value ∙ c.in_ok-commands.ensures.found in
     let segments = c.deref-4.ensures.value ∙ (c.in_ok-loads.ensures.found ∙ ap segment_loads (c.deref-2.ensures.value ∙ sym c.deref-3.ensures.value)) in
-    let sized = ap (λ (n : ℕ). 32 + n) (c.from-size.ensures ∙ c.number32.ensures) in
+    let sized = ap (λ (n : ℕ). 32 + n) (c.from.ensures ∙ c.number32.ensures) in
     let kinds = ap command_break (c.deref-3.ensures.value ∙ sym c.deref.ensures.value) ∙ c.in_ok-check_kinds.ensures in
     none_broken c.args.form c.args.bytes.now c.args.header_at _ _ _ _ c.header_in-header.ensures loads segments sized c.in_ok-commands.ensures.cause kinds c.in_ok-check_loads.ensures

@@ -1,7 +1,7 @@
 use Rattle.std.proofs.Common.{◌∙◌, ap, ap₂, sym, ℕ, Option}
 use Rattle.std.specs.Option.{option_or}
 use Rattle.macho_image.specs.Rules.{misplaced_behind}
-use Rattle.macho_image.proofs.Places.{misplaced_behind-last}
+use Rattle.macho_image.proofs.Reserved.{misplaced_behind-last}
 use Rattle.macho_image.proofs.shape.misplaced_behind.Goals as goal
 
 pub returns : goal.returns
