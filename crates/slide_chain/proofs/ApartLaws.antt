@@ -3,8 +3,11 @@ use Rattle.std.proofs.Common.{◌≡◌, ◌≤◌, ◌⊎◌, ℕ, ◌+◌, Lis
 use Rattle.std.specs.Prelude.{nat_eq, nat_lt, nat_le, ◌&&◌, ◌||◌, filter, Option, Some, None}
 use Rattle.std.specs.List.{list_any}
 use Rattle.std.proofs.lemmas.Bool.{eq-eqb, ne_eqb, lt-ltb, le-ltb, le-leb, leb-false, ltb-false, cond-true, cond-false, cases_eq, cases_lt, and_cases, false≢true, cases_Bool, or_right}
+use Rattle.dsc_base.specs.Refusals.{first_break}
+use Rattle.dsc_base.specs.declared.fault.Finding.{Finding}
 use Rattle.dsc_base.specs.declared.finding_kind.FindingKind.TheVariants.{ExtrasEnd, ChainLeavesPage, ChainsOverlap}
-use Rattle.slide_chain.specs.Chains.{Slide, chain_finding, leaving, reached, endless_page, KeepsApart, AreApart, page_reached, page_leaving, each_page, overlapping, least, found}
+use Rattle.slide_chain.specs.Chains.{Slide, chain_finding, leaving, reached, endless_page, page_reached, page_leaving, each_page, overlapping, lowest, found}
+use Rattle.slide_chain.specs.Steps.Apart.{KeepsApart, AreApart}
 use Rattle.slide_chain.proofs.MarkLaws.{AllOf, AllOf-map}
 
 -- ---- places that keep apart
@@ -124,25 +127,29 @@ pub none-overlap : (xs : List ℕ) → overlapping xs ≡ [] → AreApart xs
 unfolding overlapping
 none-overlap xs none = lonely-apart xs (filter-empty (λ a. nat_lt 1 (length (filter (near a) xs))) xs none)
 
-some_not_none : {A : Type 0} {x : A} → Some x ≡ None → ⊥
+pub some_not_none : {A : Type 0} {x : A} → Some x ≡ None → ⊥
 some_not_none {A} {x} e = cc
 
-found-two : (leaves overlap : Option ℕ) → found ChainLeavesPage leaves (found ChainsOverlap overlap None) ≡ None → (leaves ≡ None) × (overlap ≡ None)
+-- the first finding, by the places of each kind
+abbrev pub findings : Option ℕ → Option ℕ → Option ℕ → Option Finding
+findings ends leaves overlap = first_break (found ExtrasEnd ends ∷ found ChainLeavesPage leaves ∷ found ChainsOverlap overlap ∷ [])
+
+found-two : (leaves overlap : Option ℕ) → findings None leaves overlap ≡ None → (leaves ≡ None) × (overlap ≡ None)
 found-two (Some n) overlap none = absurd (some_not_none none)
 found-two None (Some n) none = absurd (some_not_none none)
 found-two None None none = (refl, refl)
 
-least-none : (xs : List ℕ) → least xs ≡ None → xs ≡ []
-unfolding least
-least-none [] none = refl
-least-none (x ∷ xs) none = absurd (some_not_none none)
+lowest-none : (xs : List ℕ) → lowest xs ≡ None → xs ≡ []
+unfolding lowest
+lowest-none [] none = refl
+lowest-none (x ∷ xs) none = absurd (some_not_none none)
 
 -- nothing found means nothing to be found
-pub found-none : (ends : Option ℕ) (leaving overlap : List ℕ) → found ExtrasEnd ends (found ChainLeavesPage (least leaving) (found ChainsOverlap (least overlap) None)) ≡ None → (leaving ≡ []) × (overlap ≡ [])
+pub found-none : (ends : Option ℕ) (leaving overlap : List ℕ) → findings ends (lowest leaving) (lowest overlap) ≡ None → (leaving ≡ []) × (overlap ≡ [])
 found-none (Some n) leaving overlap none = absurd (some_not_none none)
 found-none None leaving overlap none =
-    let parts : (least leaving ≡ None) × (least overlap ≡ None) = found-two (least leaving) (least overlap) none in
-    (least-none leaving parts.0, least-none overlap parts.1)
+    let parts : (lowest leaving ≡ None) × (lowest overlap ≡ None) = found-two (lowest leaving) (lowest overlap) none in
+    (lowest-none leaving parts.0, lowest-none overlap parts.1)
 
 -- what data without a finding have
 pub record IsSound (s : Slide) (area : List ℕ) : Type 0 where

@@ -35,7 +35,7 @@ linked_word : (n a : ℕ) (area ws : List ℕ) → 1 ≤ n → n ≤ 16 → AreB
 linked_word n a area ws some most bytes outside =
     written n (number_at 8 area a) (step_to (2 ^ n - 1) a ws) some most (number_at-lt 8 area a bytes) outside (step_to-le (2 ^ n - 1) a ws)
 
-linking-fits : (n : ℕ) (area ws : List ℕ) → 1 ≤ n → n ≤ 16 → AreBytes area → AreOutside ((2 ^ n - 1) * 2 ^ 48) area ws → AllFit (map (settled area) (linking (2 ^ n - 1) ws))
+pub linking-fits : (n : ℕ) (area ws : List ℕ) → 1 ≤ n → n ≤ 16 → AreBytes area → AreOutside ((2 ^ n - 1) * 2 ^ 48) area ws → AllFit (map (settled area) (linking (2 ^ n - 1) ws))
 unfolding linking
 linking-fits n area [] some most bytes outside = tt
 linking-fits n area (a ∷ ws) some most bytes outside =

@@ -1,13 +1,8 @@
 -- Rising words from an index on, as loops over them see them.
-use Rattle.std.proofs.Common.{◌≡◌, ◌<◌, ◌≤◌, ℕ, zero, suc, ◌+◌, ◌*◌, ◌^◌, List, [], ◌∷◌, length, take, drop, get_or, ap, subst, refl, ◌∙◌, arith}
+use Rattle.std.proofs.Common.{◌≡◌, ◌<◌, ◌≤◌, ℕ, zero, suc, ◌+◌, List, [], ◌∷◌, length, take, drop, get_or, ap, subst, ◌∙◌, arith}
 use Rattle.std.proofs.Math.Seq.{drop-cons}
 use Rattle.std.proofs.lemmas.List.{drop_all}
-use Rattle.std.specs.Prelude.{bit_and}
-use Rattle.dsc_base.specs.Numbers.{number_at, put_number}
-use Rattle.dsc_base.specs.Edits.{change_all}
-use Rattle.dsc_base.proofs.NumberLaws.{number_at-put_other}
-use Rattle.std.proofs.Common.{inr}
-use Rattle.slide_chain.specs.Making.{step, step_to, linking, AreWords, AllBelow, AreOutside}
+use Rattle.slide_chain.specs.Making.{step, step_to, AreWords, AllBelow}
 
 -- the element at an index, and those behind it
 pub drop-at : (xs : List ℕ) (i : ℕ) → i < length xs → drop i xs ≡ get_or xs i 0 ∷ drop (i + 1) xs
@@ -47,41 +42,6 @@ step_to-at limit a ws i within = ap (step_to limit a) (drop-at ws i within)
 pub step_to-past : (limit a : ℕ) (ws : List ℕ) (i : ℕ) → length ws ≤ i → step_to limit a (drop i ws) ≡ 0
 unfolding step_to
 step_to-past limit a ws i past = ap (step_to limit a) (drop_all i ws past)
-
--- the numbers at the words are what they were
-abbrev pub AreSame : List ℕ → List ℕ → List ℕ → Type 0
-AreSame before after [] = Unit {0}
-AreSame before after (a ∷ ws) = (number_at 8 after a ≡ number_at 8 before a) × AreSame before after ws
-
-pub same-all : (area ws : List ℕ) → AreSame area area ws
-same-all area [] = tt
-same-all area (a ∷ ws) = (refl, same-all area ws)
-
--- a word that is put leaves those behind it as they were
-pub same-put : (before after : List ℕ) (w v : ℕ) (ws : List ℕ) → w + 8 ≤ length after → AreWords (w + 8) ws → AreSame before after ws → AreSame before (put_number 8 after w v) ws
-same-put before after w v [] inside words same = tt
-same-put before after w v (a ∷ ws) inside words same = (
-  number_at-put_other 8 after w v 8 a (omega arith) (inr words.0) ∙ same.0,
-  same-put before after w v ws inside (words-weaken (w + 8) (a + 8) ws (omega (arith, words.0)) words.3) same.1,
-)
-
-pub same-at : (before after ws : List ℕ) (i : ℕ) → i < length ws → AreSame before after (drop i ws) → AreSame before after (get_or ws i 0 ∷ drop (i + 1) ws)
-same-at before after ws i within same = subst (AreSame before after) (drop-at ws i within) same
-
-pub outside-at : (mask : ℕ) (area ws : List ℕ) (i : ℕ) → i < length ws → AreOutside mask area ws → bit_and (number_at 8 area (get_or ws i 0)) mask ≡ 0
-outside-at mask area [] i within outside = absurd (omega arith)
-outside-at mask area (w ∷ ws) zero within outside = outside.0
-outside-at mask area (w ∷ ws) (suc i) within outside = outside-at mask area ws i (omega arith) outside.1
-
--- what is left to link, after the word at an index
-pub linking-at : (limit : ℕ) (area ws : List ℕ) (i : ℕ) → i < length ws
-    → change_all (linking limit (drop i ws)) area ≡ change_all (linking limit (drop (i + 1) ws)) (put_number 8 area (get_or ws i 0) (number_at 8 area (get_or ws i 0) + step_to limit (get_or ws i 0) (drop (i + 1) ws) * 2 ^ 48))
-unfolding change_all linking
-linking-at limit area ws i within = ap (λ (l : List ℕ). change_all (linking limit l) area) (drop-at ws i within)
-
-pub linking-none : (limit : ℕ) (area ws : List ℕ) (i : ℕ) → length ws ≤ i → change_all (linking limit (drop i ws)) area ≡ area
-unfolding change_all linking
-linking-none limit area ws i past = ap (λ (l : List ℕ). change_all (linking limit l) area) (drop_all i ws past)
 
 pub words-take : (n from : ℕ) (ws : List ℕ) → AreWords from ws → AreWords from (take n ws)
 words-take zero from ws words = tt

@@ -204,13 +204,13 @@ unfolding front
 front_none end = refl
 
 -- the last word of a page is linked to none
-front-step : (limit page a : ℕ) (ws : List ℕ) → page % 4096 ≡ 0 → a < page + 4096 → step_to limit a ws ≡ step_to limit a (front (page + 4096) ws)
+pub front-step : (limit end a : ℕ) (ws : List ℕ) → end % 4096 ≡ 0 → a < end → step_to limit a ws ≡ step_to limit a (front end ws)
 unfolding step_to
-front-step limit page a [] even below = ap (step_to limit a) (sym (front_none (page + 4096)))
-front-step limit page a (b ∷ ws) even below =
-    elim (cases_lt b (page + 4096)) [
-      | inl within ↦ ap (step_to limit a) (sym (front-below (page + 4096) b ws within))
-      | inr above ↦ step-apart limit a b (λ same. omega (arith, same)) ∙ ap (step_to limit a) (sym (front-above (page + 4096) b ws above))
+front-step limit end a [] even below = ap (step_to limit a) (sym (front_none end))
+front-step limit end a (b ∷ ws) even below =
+    elim (cases_lt b end) [
+      | inl within ↦ ap (step_to limit a) (sym (front-below end b ws within))
+      | inr above ↦ step-apart limit a b (λ same. omega (arith, same)) ∙ ap (step_to limit a) (sym (front-above end b ws above))
     ]
 
 pub front-linked : (mask : ℕ) (area : List ℕ) (limit page : ℕ) (ws : List ℕ) → page % 4096 ≡ 0 → AreLinked mask area limit ws → AreLinked mask area limit (front (page + 4096) ws)
@@ -219,7 +219,7 @@ front-linked mask area limit page [] even linked = tt
 front-linked mask area limit page (w ∷ ws) even linked =
     elim (cases_lt w (page + 4096)) [
       | inl below ↦ subst (AreLinked mask area limit) (sym (front-below (page + 4096) w ws below))
-          (linked.0 ∙ ap (λ (n : ℕ). n * 4) (front-step limit page w ws even below), front-linked mask area limit page ws even linked.1)
+          (linked.0 ∙ ap (λ (n : ℕ). n * 4) (front-step limit (page + 4096) w ws (omega arith) below), front-linked mask area limit page ws even linked.1)
       | inr above ↦ subst (AreLinked mask area limit) (sym (front-above (page + 4096) w ws above)) tt
     ]
 

@@ -1,46 +1,12 @@
 -- The loops that make slide information: what the words passed give, and what those behind give, is what all give.
-use Rattle.std.proofs.Common.{◌≡◌, ◌<◌, ◌≤◌, ℕ, zero, suc, ◌+◌, ◌-◌, ◌*◌, ◌/◌, ◌%◌, ◌^◌, List, [], ◌∷◌, ◌++◌, length, take, drop, get_or, sym, ap, ap₂, subst, refl, ◌∙◌, arith, inl, inr, length-append, cond, Bool, true, false}
+use Rattle.std.proofs.Common.{◌≡◌, ◌<◌, ◌≤◌, ℕ, zero, suc, ◌+◌, ◌-◌, ◌*◌, ◌/◌, ◌%◌, ◌^◌, List, [], ◌∷◌, ◌++◌, length, drop, get_or, sym, ap, ap₂, subst, refl, ◌∙◌, arith, inl, inr, length-append, cond, Bool, true, false}
 use Rattle.std.specs.Prelude.{nat_eq, ◌||◌, if◌then◌else◌}
 use Rattle.std.proofs.Math.Seq.{drop-cons}
 use Rattle.std.proofs.lemmas.List.{drop_all, append-nil, append_assoc}
 use Rattle.std.proofs.lemmas.Bool.{eq-eqb, ne_eqb, cases_eq}
 use Rattle.std.proofs.Math.Nat.{pow-le-pow_right}
 use Rattle.slide_chain.specs.Making.{step, firsts_after, firsts, front, rest, page_firsts, marked_last, extras_for, start_for, starts_of, extras_of}
-use Rattle.slide_chain.proofs.MadeLaws.{front-below, front-above, rest-below, rest-above, marked_some}
-use Rattle.slide_chain.proofs.ListLaws.{drop-at}
-
--- ---- the words below a place
-
-front-suc : (end : ℕ) (ws : List ℕ) (i : ℕ) → i < length ws → get_or ws i 0 < end → take i ws ++ front end (drop i ws) ≡ take (suc i) ws ++ front end (drop (suc i) ws)
-front-suc end [] i within below = absurd (omega arith)
-front-suc end (w ∷ ws) zero within below = front-below end w ws below
-front-suc end (w ∷ ws) (suc i) within below = ap (λ (l : List ℕ). w ∷ l) (front-suc end ws i (omega arith) below)
-
-pub front-more : (end : ℕ) (ws : List ℕ) (i : ℕ) → i < length ws → get_or ws i 0 < end → take i ws ++ front end (drop i ws) ≡ take (i + 1) ws ++ front end (drop (i + 1) ws)
-front-more end ws i within below =
-    let one : suc i ≡ i + 1 = omega arith in
-    front-suc end ws i within below ∙ ap (λ (n : ℕ). take n ws ++ front end (drop n ws)) one
-
-pub rest-more : (end : ℕ) (ws : List ℕ) (i : ℕ) → i < length ws → get_or ws i 0 < end → rest end (drop i ws) ≡ rest end (drop (i + 1) ws)
-rest-more end ws i within below = ap (rest end) (drop-at ws i within) ∙ rest-below end (get_or ws i 0) (drop (i + 1) ws) below
-
--- at the first word that isn't below
-pub front-stops : (end : ℕ) (ws : List ℕ) (i : ℕ) → i < length ws → end ≤ get_or ws i 0 → take i ws ++ front end (drop i ws) ≡ take i ws
-front-stops end ws i within above =
-    ap (λ (l : List ℕ). take i ws ++ front end l) (drop-at ws i within) ∙ (ap (λ (l : List ℕ). take i ws ++ l) (front-above end (get_or ws i 0) (drop (i + 1) ws) above) ∙ append-nil (take i ws))
-
-pub rest-stops : (end : ℕ) (ws : List ℕ) (i : ℕ) → i < length ws → end ≤ get_or ws i 0 → rest end (drop i ws) ≡ drop i ws
-rest-stops end ws i within above =
-    ap (rest end) (drop-at ws i within) ∙ (rest-above end (get_or ws i 0) (drop (i + 1) ws) above ∙ sym (drop-at ws i within))
-
--- behind the last word
-pub front-ends : (end : ℕ) (ws : List ℕ) (i : ℕ) → length ws ≤ i → take i ws ++ front end (drop i ws) ≡ take i ws
-unfolding front
-front-ends end ws i past = ap (λ (l : List ℕ). take i ws ++ front end l) (drop_all i ws past) ∙ append-nil (take i ws)
-
-pub rest-ends : (end : ℕ) (ws : List ℕ) (i : ℕ) → length ws ≤ i → rest end (drop i ws) ≡ drop i ws
-unfolding rest
-rest-ends end ws i past = ap (rest end) (drop_all i ws past) ∙ sym (drop_all i ws past)
+use Rattle.slide_chain.proofs.MadeLaws.{marked_some}
 
 -- ---- first words
 

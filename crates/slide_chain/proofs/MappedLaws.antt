@@ -23,12 +23,12 @@ raised-all s slide area after (a ∷ ws) plain keeps =
     ap (λ (x : ℕ). moved s.mask x slide (number_at 8 after a)) plain ∙ raised s.mask slide (number_at 8 after a) (number_at 8 area a) keeps.0.0 keeps.0.1 in
     ap₂ (λ (v : ℕ) (es : List Edit). record { at = a; width = 8; value = v } ∷ es) here (raised-all s slide area after ws plain keeps.1)
 
-raising-inside : (slide size from : ℕ) (area ws : List ℕ) → size % 4096 ≡ 0 → AreWords from ws → AllBelow size ws → AllInside size (map (settled area) (map (raising slide) ws))
+pub raising-inside : (slide size from : ℕ) (area ws : List ℕ) → size % 4096 ≡ 0 → AreWords from ws → AllBelow size ws → AllInside size (map (settled area) (map (raising slide) ws))
 raising-inside slide size from area [] even words under = tt
 raising-inside slide size from area (a ∷ ws) even words under =
     (omega (arith, even, words.2, under.0), raising-inside slide size (a + 8) area ws even words.3 under.1)
 
-raising-rises : (slide from : ℕ) (area ws : List ℕ) → AreWords from ws → RisesFrom from (map (settled area) (map (raising slide) ws))
+pub raising-rises : (slide from : ℕ) (area ws : List ℕ) → AreWords from ws → RisesFrom from (map (settled area) (map (raising slide) ws))
 raising-rises slide from area [] words = tt
 raising-rises slide from area (a ∷ ws) words = (words.0, raising-rises slide (a + 8) area ws words.3)
 

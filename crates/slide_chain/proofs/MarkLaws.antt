@@ -7,8 +7,8 @@ use Rattle.std.proofs.Math.Nat.{add-mul, zero-mul, mul-zero, mul-one, one-mul}
 use Rattle.std.proofs.lemmas.List.{get_or-set_same, get_or-set_other, get_or_past, drop_all}
 use Rattle.slide_chain.proofs.ListLaws.{drop-at}
 use Rattle.slide_chain.proofs.MadeLaws.{marked-large, marked-small}
-use Rattle.slide_chain.specs.Chains.{is_marked, extra_heads, heads, least}
-use Rattle.slide_chain.specs.Marks.{weight, counted, AreCounted}
+use Rattle.slide_chain.specs.Chains.{is_marked, extra_heads, heads, lowest}
+use Rattle.slide_chain.specs.Steps.Marks.{weight, counted, AreCounted}
 
 zero_more : (n : ℕ) → n ≡ 0 + n
 zero_more n = omega arith
@@ -241,10 +241,10 @@ min-first : (a x : ℕ) (o : Option ℕ) → a ≡ x → NotBelow a o → min x 
 min-first a x None is above = omega (arith, is)
 min-first a x (Some y) is above = omega (arith, is, above)
 
-pub least-above : (a : ℕ) (xs : List ℕ) → AllOf (λ x. a ≤ x) xs → NotBelow a (least xs)
-unfolding least
-least-above a [] all = tt
-least-above a (x ∷ xs) all = min-both a x (least xs) all.0 (least-above a xs all.1)
+pub lowest-above : (a : ℕ) (xs : List ℕ) → AllOf (λ x. a ≤ x) xs → NotBelow a (lowest xs)
+unfolding lowest
+lowest-above a [] all = tt
+lowest-above a (x ∷ xs) all = min-both a x (lowest xs) all.0 (lowest-above a xs all.1)
 
 -- each place that is counted is one of the page whose counter isn't 0
 pub counted-placed : (m : List ℕ) (page : ℕ) (places : List ℕ) → AreCounted m page places → AllOf (IsPlaced page m) places
@@ -259,15 +259,15 @@ counted-times m page places k is lt =
     (λ j other. passing-false (nat_eq (page + k * 4)) (page + j * 4) (ne_eqb (page + k * 4) (page + j * 4) (λ e. other (omega (arith, e)))))
 
 -- the least of places that are all at or above one of them
-pub least-is : (a : ℕ) (xs : List ℕ) → list_any (nat_eq a) xs ≡ true → AllOf (λ x. a ≤ x) xs → least xs ≡ Some a
-unfolding least
-least-is a [] there all = absurd (false≢true there)
-least-is a (x ∷ xs) there all =
+pub lowest-is : (a : ℕ) (xs : List ℕ) → list_any (nat_eq a) xs ≡ true → AllOf (λ x. a ≤ x) xs → lowest xs ≡ Some a
+unfolding lowest
+lowest-is a [] there all = absurd (false≢true there)
+lowest-is a (x ∷ xs) there all =
     elim (cases_eq a x) [
-      | inl same ↦ ap (λ (n : ℕ). Some n) (min-first a x (least xs) same (least-above a xs all.1))
+      | inl same ↦ ap (λ (n : ℕ). Some n) (min-first a x (lowest xs) same (lowest-above a xs all.1))
       | inr other ↦
           let later : list_any (nat_eq a) xs ≡ true = ap (λ (b : Bool). b || list_any (nat_eq a) xs) (sym (ne_eqb a x other)) ∙ there in
-          ap (λ (o : Option ℕ). Some (min x (unwrap_or o x))) (least-is a xs later all.1) ∙ ap (λ (n : ℕ). Some n) (min_above a x (omega (arith, all.0)))
+          ap (λ (o : Option ℕ). Some (min x (unwrap_or o x))) (lowest-is a xs later all.1) ∙ ap (λ (n : ℕ). Some n) (min_above a x (omega (arith, all.0)))
     ]
 
 -- ---- first words

@@ -4,7 +4,8 @@ use Rattle.std.proofs.lemmas.List.{append-nil, append_assoc}
 use Rattle.dsc_base.specs.Numbers.{number_at, put_number}
 use Rattle.dsc_base.specs.Edits.{change_all}
 use Rattle.dsc_base.proofs.NumberLaws.{number_at-put_other, length-put_number}
-use Rattle.slide_chain.specs.Chains.{moved, moving, KeepsApart, AreApart}
+use Rattle.slide_chain.specs.Chains.{moved, moving}
+use Rattle.slide_chain.specs.Steps.Apart.{KeepsApart, AreApart}
 use Rattle.slide_chain.proofs.MarkLaws.{AllOf, AllOf-map}
 use Rattle.slide_chain.proofs.ApartLaws.{apart-right, apart-before, apart-skip}
 

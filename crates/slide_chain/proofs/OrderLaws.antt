@@ -8,9 +8,9 @@ use Rattle.std.proofs.Math.Seq.{take-suc}
 use Rattle.std.proofs.Math.Bool.{or-false}
 use Rattle.std.proofs.lemmas.List.Elements.{filter-append}
 use Rattle.std.proofs.lemmas.List.Folds.{list_any-append}
-use Rattle.slide_chain.specs.Chains.{each_page, in_order, overlapping, least}
+use Rattle.slide_chain.specs.Chains.{each_page, in_order, overlapping, lowest}
 use Rattle.slide_chain.proofs.ListLaws.{drop-at}
-use Rattle.slide_chain.proofs.MarkLaws.{AllOf, AllOf-map, least-is}
+use Rattle.slide_chain.proofs.MarkLaws.{AllOf, AllOf-map, lowest-is}
 use Rattle.slide_chain.proofs.SieveLaws.{all-filter}
 use Rattle.slide_chain.proofs.PageLaws.{filter-none, AllOf-append}
 
@@ -21,13 +21,13 @@ abbrev pub LeastOf : List ℕ → Option ℕ → Type 0
 LeastOf xs None = xs ≡ []
 LeastOf xs (Some a) = (list_any (nat_eq a) xs ≡ true) × AllOf (λ x. a ≤ x) xs
 
-pub least-cons : (x : ℕ) (xs : List ℕ) (o : Option ℕ) → LeastOf xs o → LeastOf (x ∷ xs) (Some (min x (unwrap_or o x)))
-least-cons x xs None none =
+pub lowest-cons : (x : ℕ) (xs : List ℕ) (o : Option ℕ) → LeastOf xs o → LeastOf (x ∷ xs) (Some (min x (unwrap_or o x)))
+lowest-cons x xs None none =
     let same : min x x ≡ x = omega arith in (
       ap (λ (m : ℕ). nat_eq m x || list_any (nat_eq m) xs) same ∙ ap (λ (b : Bool). b || list_any (nat_eq x) xs) (eq-eqb x x refl),
       (omega arith, subst (AllOf (λ y. min x x ≤ y)) (sym none) tt),
     )
-least-cons x xs (Some b) (there, all) =
+lowest-cons x xs (Some b) (there, all) =
     elim (cases_lt b x) [
       | inl less ↦
           let is : min x b ≡ b = omega (arith, less) in
@@ -38,10 +38,10 @@ least-cons x xs (Some b) (there, all) =
           (ap (λ (t : Bool). t || list_any (nat_eq x) xs) (eq-eqb x x refl), (omega arith, AllOf-map (λ y. b ≤ y) (λ y. x ≤ y) xs (λ y le. omega (arith, le, more)) all))
     ]
 
-pub least-tells : (xs : List ℕ) → LeastOf xs (least xs)
-unfolding least
-least-tells [] = refl
-least-tells (x ∷ xs) = least-cons x xs (least xs) (least-tells xs)
+pub lowest-tells : (xs : List ℕ) → LeastOf xs (lowest xs)
+unfolding lowest
+lowest-tells [] = refl
+lowest-tells (x ∷ xs) = lowest-cons x xs (lowest xs) (lowest-tells xs)
 
 -- what holds of all holds of one that is there
 pub any-all : (P : ℕ → Type 0) (a : ℕ) (xs : List ℕ) → list_any (nat_eq a) xs ≡ true → AllOf P xs → P a
@@ -52,17 +52,17 @@ any-all P a (x ∷ xs) there all =
       | inr other ↦ any-all P a xs (ap (λ (b : Bool). b || list_any (nat_eq a) xs) (sym (ne_eqb a x other)) ∙ there) all.1
     ]
 
-pub least-there : (a : ℕ) (xs : List ℕ) → least xs ≡ Some a → LeastOf xs (Some a)
-least-there a xs is = subst (LeastOf xs) is (least-tells xs)
+pub lowest-there : (a : ℕ) (xs : List ℕ) → lowest xs ≡ Some a → LeastOf xs (Some a)
+lowest-there a xs is = subst (LeastOf xs) is (lowest-tells xs)
 
 -- places that lie behind don't change the least
-pub least-first : (a : ℕ) (xs ys : List ℕ) → least xs ≡ Some a → AllOf (λ y. a ≤ y) ys → least (xs ++ ys) ≡ Some a
-least-first a xs ys is behind =
-    let tells : LeastOf xs (Some a) = least-there a xs is in
-    least-is a (xs ++ ys) (list_any-append (nat_eq a) xs ys ∙ ap (λ (b : Bool). b || list_any (nat_eq a) ys) tells.0) (AllOf-append (λ y. a ≤ y) xs ys tells.1 behind)
+pub lowest-first : (a : ℕ) (xs ys : List ℕ) → lowest xs ≡ Some a → AllOf (λ y. a ≤ y) ys → lowest (xs ++ ys) ≡ Some a
+lowest-first a xs ys is behind =
+    let tells : LeastOf xs (Some a) = lowest-there a xs is in
+    lowest-is a (xs ++ ys) (list_any-append (nat_eq a) xs ys ∙ ap (λ (b : Bool). b || list_any (nat_eq a) ys) tells.0) (AllOf-append (λ y. a ≤ y) xs ys tells.1 behind)
 
-pub least-under : (P : ℕ → Type 0) (a : ℕ) (xs : List ℕ) → least xs ≡ Some a → AllOf P xs → P a
-least-under P a xs is all = any-all P a xs (least-there a xs is).0 all
+pub lowest-under : (P : ℕ → Type 0) (a : ℕ) (xs : List ℕ) → lowest xs ≡ Some a → AllOf P xs → P a
+lowest-under P a xs is all = any-all P a xs (lowest-there a xs is).0 all
 
 -- ---- pages
 

@@ -7,9 +7,9 @@ use Rattle.std.proofs.Math.Nat.{mul-add}
 use Rattle.std.proofs.lemmas.List.{get_or_past, append-nil, append_assoc}
 use Rattle.dsc_base.specs.Numbers.{number_at}
 use Rattle.slide_chain.specs.declared.words.ChainWord.{ChainWord}
-use Rattle.slide_chain.specs.Chains.{delta_of, kept, unslid, chain, is_marked, extra_heads, heads, page_reached, page_leaving, in_order, words_at, overlapping, least}
-use Rattle.slide_chain.specs.Marks.{counted, AreCounted}
-use Rattle.slide_chain.proofs.MarkLaws.{AllOf, AllOf-map, IsPlaced, passing, passing-true, passing-false, any-weight, length-filter, counted-placed, counted-times, counted-one, counted-zero, least-is}
+use Rattle.slide_chain.specs.Chains.{delta_of, kept, unslid, chain, is_marked, extra_heads, heads, page_reached, page_leaving, in_order, words_at, overlapping, lowest}
+use Rattle.slide_chain.specs.Steps.Marks.{counted, AreCounted}
+use Rattle.slide_chain.proofs.MarkLaws.{AllOf, AllOf-map, IsPlaced, passing, passing-true, passing-false, any-weight, length-filter, counted-placed, counted-times, counted-one, counted-zero, lowest-is}
 use Rattle.slide_chain.proofs.SieveLaws.{leaves, chain-above, all-filter, any-filter}
 
 -- ---- lists of places
@@ -106,10 +106,10 @@ leaving-above mask extras area page start =
     (AllOf-filter (λ x. page ≤ x) (leaves mask area page) (page_reached mask extras area page start) (reached-above mask extras area page start))
 
 -- a first word outside
-pub leaving-heads : (mask : ℕ) (extras area : List ℕ) (page start : ℕ) → list_any (nat_lt (page + 0xFF8)) (heads extras page start) ≡ true → least (page_leaving mask extras area page start) ≡ Some page
+pub leaving-heads : (mask : ℕ) (extras area : List ℕ) (page start : ℕ) → list_any (nat_lt (page + 0xFF8)) (heads extras page start) ≡ true → lowest (page_leaving mask extras area page start) ≡ Some page
 unfolding page_leaving
 leaving-heads mask extras area page start out =
-    least-is page (map (λ h. page) (filter (nat_lt (page + 0xFF8)) (heads extras page start)) ++ filter (leaves mask area page) (page_reached mask extras area page start))
+    lowest-is page (map (λ h. page) (filter (nat_lt (page + 0xFF8)) (heads extras page start)) ++ filter (leaves mask area page) (page_reached mask extras area page start))
     (map-any page (nat_lt (page + 0xFF8)) (heads extras page start) (filter (leaves mask area page) (page_reached mask extras area page start)) out)
     (leaving-above mask extras area page start)
 
@@ -264,12 +264,12 @@ overlap-none marks places page long is apart =
 
 -- the first counter that shows one tells the least place
 pub overlap-some : (marks places : List ℕ) (page k : ℕ) → length marks ≡ 1023 → AreCounted marks page places → k < 1023 → clashes marks k ≡ true → ((j : ℕ) → j < k → clashes marks j ≡ false)
-    → least (overlapping places) ≡ Some (page + k * 4)
+    → lowest (overlapping places) ≡ Some (page + k * 4)
 unfolding overlapping
 overlap-some marks places page k long is within clash apart =
     let both : (nat_lt 0 (get_or marks k 0) ≡ true) × (nat_lt 1 (get_or marks k 0 + get_or marks (k + 1) 0) ≡ true) = and_parts (nat_lt 0 (get_or marks k 0)) (nat_lt 1 (get_or marks k 0 + get_or marks (k + 1) 0)) clash in
     let there : list_any (nat_eq (page + k * 4)) places ≡ true = place-there marks places page k long is (omega arith) ∙ both.0 in
-    least-is (page + k * 4) (filter (λ a. nat_lt 1 (length (filter (near a) places))) places)
+    lowest-is (page + k * 4) (filter (λ a. nat_lt 1 (length (filter (near a) places))) places)
     (any-filter (nat_eq (page + k * 4)) (λ a. nat_lt 1 (length (filter (near a) places))) (page + k * 4) places
     (ap (nat_lt 1) (near-count marks places page k long is within) ∙ both.1) (λ x e. sym (eqb-true (page + k * 4) x e)) there)
     (all-filter (λ x. page + k * 4 ≤ x) (λ a. nat_lt 1 (length (filter (near a) places))) places

@@ -6,12 +6,12 @@ use Rattle.std.proofs.lemmas.Bool.{le-ltb, ltb-false, false≢true, or_parts}
 use Rattle.std.proofs.lemmas.List.{take_all, length-take-le}
 use Rattle.std.proofs.lemmas.List.Folds.{list_any-append}
 use Rattle.slide_chain.specs.declared.words.ChainWord.{ChainWord}
-use Rattle.slide_chain.specs.Chains.{heads, chain, page_reached, page_leaving, each_page, in_order, words_at, overlapping, least}
-use Rattle.slide_chain.specs.Reading.{SamePlaces, SameHeads}
-use Rattle.slide_chain.proofs.MarkLaws.{AllOf, AllOf-map, least-is}
+use Rattle.slide_chain.specs.Chains.{heads, chain, page_reached, page_leaving, each_page, in_order, words_at, overlapping, lowest}
+use Rattle.slide_chain.specs.Steps.Reading.{SamePlaces, SameHeads}
+use Rattle.slide_chain.proofs.MarkLaws.{AllOf, AllOf-map, lowest-is}
 use Rattle.slide_chain.proofs.SieveLaws.{leaves}
 use Rattle.slide_chain.proofs.PageLaws.{AllOf-append, reached-above, reached-below, leaving-above, leaving-below, words_at-append}
-use Rattle.slide_chain.proofs.OrderLaws.{LeastOf, least-tells, least-first, least-under, each_page-above, each_page-below, each_page-push, each_page-split, overlapping-append, overlapping-under, any-none, in_order-append}
+use Rattle.slide_chain.proofs.OrderLaws.{LeastOf, lowest-tells, lowest-first, lowest-under, each_page-above, each_page-below, each_page-push, each_page-split, overlapping-append, overlapping-under, any-none, in_order-append}
 
 -- ---- the walk over the pages
 
@@ -71,14 +71,14 @@ walked-more mask value_add extras area starts i words new within here apart is b
     }
 
 -- a page that a chain leaves tells the least place of all
-pub leaves-here : (mask : ℕ) (extras area starts : List ℕ) (i at : ℕ) → i < length starts → least (page_leaving mask extras area (i * 4096) (get_or starts i 0)) ≡ Some at
-    → each_page (page_leaving mask extras area) 0 (take i starts) ≡ [] → least (each_page (page_leaving mask extras area) 0 starts) ≡ Some at
+pub leaves-here : (mask : ℕ) (extras area starts : List ℕ) (i at : ℕ) → i < length starts → lowest (page_leaving mask extras area (i * 4096) (get_or starts i 0)) ≡ Some at
+    → each_page (page_leaving mask extras area) 0 (take i starts) ≡ [] → lowest (each_page (page_leaving mask extras area) 0 starts) ≡ Some at
 leaves-here mask extras area starts i at within is before =
     let own : List ℕ = page_leaving mask extras area (i * 4096) (get_or starts i 0) in
     let later : List ℕ = each_page (page_leaving mask extras area) (i * 4096 + 4096) (drop (i + 1) starts) in
-    let under : at ≤ i * 4096 + 0xFF8 = least-under (λ x. x ≤ i * 4096 + 0xFF8) at own is (leaving-below mask extras area (i * 4096) (get_or starts i 0)) in
-    ap least (each_page-split (page_leaving mask extras area) starts i within ∙ ap (λ (l : List ℕ). l ++ (own ++ later)) before)
-    ∙ least-first at own later is
+    let under : at ≤ i * 4096 + 0xFF8 = lowest-under (λ x. x ≤ i * 4096 + 0xFF8) at own is (leaving-below mask extras area (i * 4096) (get_or starts i 0)) in
+    ap lowest (each_page-split (page_leaving mask extras area) starts i within ∙ ap (λ (l : List ℕ). l ++ (own ++ later)) before)
+    ∙ lowest-first at own later is
     (AllOf-map (λ y. i * 4096 + 4096 ≤ y) (λ y. at ≤ y) later (λ y le. omega (arith, le, under))
     (each_page-above (page_leaving mask extras area) (λ page start. leaving-above mask extras area page start) (i * 4096 + 4096) (drop (i + 1) starts)))
 
@@ -87,8 +87,8 @@ leaves-nowhere mask extras area starts i past before = ap (each_page (page_leavi
 
 -- a page in which words overlap tells the least place of all
 pub overlaps-here : (mask value_add : ℕ) (extras area starts : List ℕ) (i at : ℕ) (words : List ChainWord) → i < length starts
-    → least (overlapping (page_reached mask extras area (i * 4096) (get_or starts i 0))) ≡ Some at → Walked mask value_add extras area starts i words
-    → least (overlapping (each_page (page_reached mask extras area) 0 starts)) ≡ Some at
+    → lowest (overlapping (page_reached mask extras area (i * 4096) (get_or starts i 0))) ≡ Some at → Walked mask value_add extras area starts i words
+    → lowest (overlapping (each_page (page_reached mask extras area) 0 starts)) ≡ Some at
 overlaps-here mask value_add extras area starts i at words within is before =
     let passed : List ℕ = each_page (page_reached mask extras area) 0 (take i starts) in
     let own : List ℕ = page_reached mask extras area (i * 4096) (get_or starts i 0) in
@@ -100,12 +100,12 @@ overlaps-here mask value_add extras area starts i at words within is before =
     each_page-above (page_reached mask extras area) (λ page start. reached-above mask extras area page start) (i * 4096 + 4096) (drop (i + 1) starts) in
     let both_above : AllOf (λ y. i * 4096 ≤ y) (own ++ later) =
     AllOf-append (λ y. i * 4096 ≤ y) own later own_above (AllOf-map (λ y. i * 4096 + 4096 ≤ y) (λ y. i * 4096 ≤ y) later (λ y le. omega (arith, le)) later_above) in
-    let under : at + 8 ≤ i * 4096 + 4096 = least-under (λ x. x + 8 ≤ i * 4096 + 4096) at (overlapping own) is (overlapping-under (λ x. x + 8 ≤ i * 4096 + 4096) own own_below) in
-    ap (λ (l : List ℕ). least (overlapping l)) (each_page-split (page_reached mask extras area) starts i within)
-    ∙ (ap least (overlapping-append (i * 4096) passed (own ++ later) (passed-below mask extras area starts i within) both_above)
-    ∙ (ap (λ (l : List ℕ). least (l ++ overlapping (own ++ later))) before.apart
-    ∙ (ap least (overlapping-append (i * 4096 + 4096) own later own_below later_above)
-    ∙ least-first at (overlapping own) (overlapping later) is
+    let under : at + 8 ≤ i * 4096 + 4096 = lowest-under (λ x. x + 8 ≤ i * 4096 + 4096) at (overlapping own) is (overlapping-under (λ x. x + 8 ≤ i * 4096 + 4096) own own_below) in
+    ap (λ (l : List ℕ). lowest (overlapping l)) (each_page-split (page_reached mask extras area) starts i within)
+    ∙ (ap lowest (overlapping-append (i * 4096) passed (own ++ later) (passed-below mask extras area starts i within) both_above)
+    ∙ (ap (λ (l : List ℕ). lowest (l ++ overlapping (own ++ later))) before.apart
+    ∙ (ap lowest (overlapping-append (i * 4096 + 4096) own later own_below later_above)
+    ∙ lowest-first at (overlapping own) (overlapping later) is
     (AllOf-map (λ y. i * 4096 + 4096 ≤ y) (λ y. at ≤ y) (overlapping later) (λ y le. omega (arith, le, under)) (overlapping-under (λ y. i * 4096 + 4096 ≤ y) later later_above)))))
 
 -- the walk is over, and nothing was found
@@ -184,14 +184,14 @@ empty-any [] none = refl
 empty-any (x ∷ xs) none = absurd (false≢true (sym none))
 
 -- the same places have the same least one
-same-least : (xs ys : List ℕ) (o : Option ℕ) → LeastOf xs o → SamePlaces xs ys → least ys ≡ o
-unfolding least
+same-least : (xs ys : List ℕ) (o : Option ℕ) → LeastOf xs o → SamePlaces xs ys → lowest ys ≡ o
+unfolding lowest
 same-least xs ys None none same =
     let empty : list_any (λ x. true) ys ≡ false = sym (same (λ x. true)) ∙ ap (list_any (λ x. true)) none in
-    ap least (empty-any ys empty)
+    ap lowest (empty-any ys empty)
 same-least xs ys (Some a) tells same =
     let none : list_any (λ x. nat_lt x a) xs ≡ false = any-none (λ x. nat_lt x a) xs (AllOf-map (λ x. a ≤ x) (λ x. nat_lt x a ≡ false) xs (λ x le. le-ltb x a le) tells.1) in
-    least-is a ys (sym (same (nat_eq a)) ∙ tells.0) (all-any (λ x. nat_lt x a) (λ x. a ≤ x) ys (λ x fails. ltb-false x a fails) (sym (same (λ x. nat_lt x a)) ∙ none))
+    lowest-is a ys (sym (same (nat_eq a)) ∙ tells.0) (all-any (λ x. nat_lt x a) (λ x. a ≤ x) ys (λ x fails. ltb-false x a fails) (sym (same (λ x. nat_lt x a)) ∙ none))
 
-pub least-same : (xs ys : List ℕ) → SamePlaces xs ys → least ys ≡ least xs
-least-same xs ys same = same-least xs ys (least xs) (least-tells xs) same
+pub lowest-same : (xs ys : List ℕ) → SamePlaces xs ys → lowest ys ≡ lowest xs
+lowest-same xs ys same = same-least xs ys (lowest xs) (lowest-tells xs) same

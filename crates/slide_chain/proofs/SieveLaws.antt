@@ -6,11 +6,11 @@ use Rattle.std.proofs.lemmas.Bool.{eq-eqb, ne_eqb, lt-ltb, le-ltb, cond-true, co
 use Rattle.std.proofs.Math.Nat.{mul-add, mul-pos, zero-mul}
 use Rattle.std.proofs.lemmas.List.{get_or-set_other}
 use Rattle.dsc_base.specs.Numbers.{number_at}
-use Rattle.slide_chain.specs.Chains.{IsRun, delta_of, chain, least}
-use Rattle.slide_chain.specs.Marks.{weight, counted, AreCounted, followed}
+use Rattle.slide_chain.specs.Chains.{IsRun, delta_of, chain, lowest}
+use Rattle.slide_chain.specs.Steps.Marks.{weight, counted, AreCounted, followed}
 use Rattle.slide_chain.proofs.WordLaws.{delta-fours}
 use Rattle.slide_chain.proofs.MadeLaws.{chain-ends, chain-goes}
-use Rattle.slide_chain.proofs.MarkLaws.{AllOf, AllOf-map, weight-flat_map, weight-none, weight-zero, passing, passing-true, passing-false, passing-none, any-weight, counted-more, counted-set, counted-zero, counter-le, least-is}
+use Rattle.slide_chain.proofs.MarkLaws.{AllOf, AllOf-map, weight-flat_map, weight-none, weight-zero, passing, passing-true, passing-false, passing-none, any-weight, counted-more, counted-set, counted-zero, counter-le, lowest-is}
 
 plus_none : (n : ℕ) → n + 0 ≡ n
 plus_none n = omega arith
@@ -314,7 +314,7 @@ weigh-itself mask area page k within =
 -- the first place whose step leaves the page is the least of all
 pub sifted-leaves : (mask : ℕ) (area : List ℕ) (page : ℕ) (first m places : List ℕ) (k : ℕ) → k < 1023 → 0 < get_or m k 0
     → page + 0xFF8 < page + k * 4 + delta_of mask (number_at 8 area (page + k * 4)) → AreCounted first page places → Sifted mask area page first m k
-    → least (filter (leaves mask area page) (flat_map (chain mask area (page + 0xFF8) 1024) places)) ≡ Some (page + k * 4)
+    → lowest (filter (leaves mask area page) (flat_map (chain mask area (page + 0xFF8) 1024) places)) ≡ Some (page + k * 4)
 unfolding weigh
 sifted-leaves mask area page first m places k within some out is sifted =
     let at : ℕ = page + k * 4 in
@@ -354,5 +354,5 @@ sifted-leaves mask area page first m places k within some out is sifted =
     (λ x gone out_x. ltb-false x (page + k * 4)
     (ap (λ (b : Bool). b && nat_lt x (page + k * 4)) (sym out_x) ∙ passing-none (λ y. leaves mask area page y && nat_lt y (page + k * 4)) x gone))
     (weight-none (passing (λ x. leaves mask area page x && nat_lt x (page + k * 4))) (flat_map (chain mask area (page + 0xFF8) 1024) places) nothing) in
-    least-is (page + k * 4) (filter (leaves mask area page) (flat_map (chain mask area (page + 0xFF8) 1024) places)) member
+    lowest-is (page + k * 4) (filter (leaves mask area page) (flat_map (chain mask area (page + 0xFF8) 1024) places)) member
     (all-filter (λ x. page + k * 4 ≤ x) (leaves mask area page) (flat_map (chain mask area (page + 0xFF8) 1024) places) above)

@@ -6,7 +6,8 @@ use Rattle.std.proofs.lemmas.Bool.{eq-eqb, lt-ltb, ltb-false, cond-true, cond-fa
 use Rattle.std.proofs.lemmas.List.{append-nil, drop_all}
 use Rattle.dsc_base.specs.Numbers.{number_at, put_number}
 use Rattle.dsc_base.specs.Edits.{change_all}
-use Rattle.slide_chain.specs.Chains.{delta_of, moved, moving, AreApart, chain, is_marked, extra_heads, heads, page_reached, page_leaving, each_page}
+use Rattle.slide_chain.specs.Chains.{delta_of, moved, moving, chain, is_marked, extra_heads, heads, page_reached, page_leaving, each_page}
+use Rattle.slide_chain.specs.Steps.Apart.{AreApart}
 use Rattle.slide_chain.proofs.ListLaws.{drop-at}
 use Rattle.slide_chain.proofs.MadeLaws.{chain-ends, chain-goes}
 use Rattle.slide_chain.proofs.MarkLaws.{AllOf, AllOf-map, heads-at, one-head, many-heads}

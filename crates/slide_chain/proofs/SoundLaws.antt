@@ -9,10 +9,10 @@ use Rattle.std.proofs.lemmas.List.{drop-drop, append_assoc}
 use Rattle.std.proofs.Math.Seq.{drop-append_seam}
 use Rattle.dsc_base.specs.Numbers.{number_at}
 use Rattle.dsc_base.specs.Edits.{change_all}
-use Rattle.dsc_base.specs.declared.finding_kind.FindingKind.TheVariants.{ExtrasEnd, ChainLeavesPage, ChainsOverlap}
-use Rattle.slide_chain.specs.Chains.{Slide, delta_of, is_marked, each_page, reached, run_ends, endless_page, page_leaving, leaving, overlapping, least, found, chain_finding}
+use Rattle.slide_chain.specs.Chains.{Slide, delta_of, is_marked, each_page, reached, run_ends, endless_page, page_leaving, leaving, overlapping, lowest, chain_finding}
 use Rattle.slide_chain.specs.Making.{step, step_to, firsts_after, firsts, front, rest, page_firsts, marked_last, extras_for, start_for, starts_of, extras_of, linking, info_of, AreWords, AllBelow}
 use Rattle.slide_chain.proofs.MadeLaws.{AreLinked, AllIn, step_cases, heads-start, page-made, front-words, front-in, front-linked, rest-words, rest-linked, firsts-in, firsts-fours, marked-large, marked-small, marked_some}
+use Rattle.slide_chain.proofs.ApartLaws.{findings}
 use Rattle.slide_chain.proofs.LinkLaws.{IsLinkable, linkable-links, reached-made}
 
 -- ---- each run of extras ends
@@ -174,7 +174,7 @@ words-alone from ws words = alone ws [] from ws refl tt words
 -- the chains that were made and written have no finding
 pub chains-sound : (n size : ℕ) (area after ws : List ℕ) → IsLinkable n size area ws → length (extras_of (page_firsts (2 ^ n - 1) 0 (size / 4096) ws)) ≤ 0x4000
     → after ≡ change_all (linking (2 ^ n - 1) ws) area → chain_finding (info_of n size ws) after ≡ None
-unfolding chain_finding leaving least info_of
+unfolding chain_finding leaving lowest info_of
 chains-sound n size area after ws fit few is =
     let s : Slide = info_of n size ws in
     let is_reached : reached (info_of n size ws) after ≡ ws = ap (reached (info_of n size ws)) is ∙ reached-made n size area ws fit few in
@@ -182,5 +182,5 @@ chains-sound n size area after ws fit few is =
     let ends : endless_page s.extras 0 s.starts ≡ None = starts-end s.extras (2 ^ n - 1) 0 (size / 4096) 0 0 ws refl (omega (arith, few)) in
     let stays : leaving s after ≡ [] = pages-stay s after (2 ^ n - 1) 0 (size / 4096) 0 ws refl fit.words linked refl (omega (arith, few)) in
     let apart : overlapping (reached s after) ≡ [] = ap overlapping is_reached ∙ words-alone 0 ws fit.words in
-    ap₂ (λ (e : Option ℕ) (l : List ℕ). found ExtrasEnd e (found ChainLeavesPage (least l) (found ChainsOverlap (least (overlapping (reached s after))) None))) ends stays
-    ∙ ap (λ (l : List ℕ). found ExtrasEnd None (found ChainLeavesPage None (found ChainsOverlap (least l) None))) apart
+    ap₂ (λ (e : Option ℕ) (l : List ℕ). findings e (lowest l) (lowest (overlapping (reached s after)))) ends stays
+    ∙ ap (λ (l : List ℕ). findings None None (lowest l)) apart

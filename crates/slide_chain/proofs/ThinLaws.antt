@@ -7,8 +7,8 @@ use Rattle.std.proofs.lemmas.List.{append-nil, append_assoc, drop_all, length-ap
 use Rattle.std.proofs.Math.Seq.{drop-cons, drop-append_seam}
 use Rattle.std.proofs.Math.ListN.{get_or-append}
 use Rattle.slide_chain.specs.Chains.{is_marked, extra_heads, heads}
-use Rattle.slide_chain.specs.Reading.{SamePlaces, SameHeads}
-use Rattle.slide_chain.specs.Thinning.{Repeats, kept_extras, moved_start}
+use Rattle.slide_chain.specs.Steps.Reading.{SamePlaces, SameHeads}
+use Rattle.slide_chain.specs.Steps.Thinning.{Repeats, kept_extras, moved_start}
 use Rattle.slide_chain.proofs.ListLaws.{drop-at}
 use Rattle.slide_chain.proofs.MarkLaws.{heads-at, one-head, many-heads}
 

@@ -1,11 +1,11 @@
 -- Which words of the data slide with the cache: slide information of version 2, as Apple's dyld_cache_format.h has it.
 -- The data are whole pages of 4096 bytes. A place is an offset in them.
-use Rattle.std.specs.Prelude.{◌≡◌, ◌≤◌, ◌⊎◌, ℕ, zero, suc, ◌+◌, ◌-◌, ◌*◌, ◌/◌, ◌%◌, ◌^◌, min, Bool, true, ◌&&◌, List, [], ◌∷◌, ◌++◌, map, length, drop, filter, nat_eq, nat_lt, nat_le, Option, Some, None, unwrap_or, bit_and, if◌then◌else◌}
+use Rattle.std.specs.Prelude.{◌≡◌, ◌≤◌, ℕ, zero, suc, ◌+◌, ◌-◌, ◌*◌, ◌/◌, ◌%◌, ◌^◌, min, Bool, true, ◌&&◌, List, [], ◌∷◌, ◌++◌, map, length, drop, filter, nat_eq, nat_lt, nat_le, Option, Some, None, option_map, unwrap_or, bit_and, if◌then◌else◌}
 use Rattle.std.specs.Int.{trailing_zeros, w64}
 use Rattle.std.specs.List.{flat_map, list_any}
-use Rattle.std.specs.Option.{option_map_or}
 use Rattle.dsc_base.specs.Numbers.{number_at}
 use Rattle.dsc_base.specs.Edits.{Change, change_all}
+use Rattle.dsc_base.specs.Refusals.{first_break}
 use Rattle.dsc_base.specs.declared.fault.Finding.{Finding}
 use Rattle.dsc_base.specs.declared.finding_kind.FindingKind.{FindingKind}
 use Rattle.dsc_base.specs.declared.finding_kind.FindingKind.TheVariants.{ExtrasEnd, ChainLeavesPage, ChainsOverlap}
@@ -133,30 +133,20 @@ leaving s area = each_page (page_leaving s.mask s.extras area) 0 s.starts
 unfoldable pub overlapping : List ℕ → List ℕ
 overlapping places = filter (λ a. nat_lt 1 (length (filter (λ b. nat_le a b && nat_lt b (a + 8)) places))) places
 
-unfoldable pub least : List ℕ → Option ℕ
-least [] = None
-least (x ∷ xs) = Some (min x (unwrap_or (least xs) x))
+unfoldable pub lowest : List ℕ → Option ℕ
+lowest [] = None
+lowest (x ∷ xs) = Some (min x (unwrap_or (lowest xs) x))
 
--- a finding at a place, if there is one, else what is found besides
-abbrev pub found : FindingKind → Option ℕ → Option Finding → Option Finding
-found kind place besides = option_map_or (λ at. Some record { kind = kind; image = 0; at = at }) place besides
+-- a finding at a place, if there is one
+abbrev pub found : FindingKind → Option ℕ → Option Finding
+found kind place = option_map (λ at. record { kind = kind; image = 0; at = at }) place
 
 -- what is wrong with the chains: what no run ends goes before what leaves its page, and that before what overlaps
 unfoldable pub chain_finding : Slide → List ℕ → Option Finding
 chain_finding s area =
-    found ExtrasEnd (endless_page s.extras 0 s.starts) (found ChainLeavesPage (least (leaving s area)) (found ChainsOverlap (least (overlapping (reached s area))) None))
+    first_break (found ExtrasEnd (endless_page s.extras 0 s.starts) ∷ found ChainLeavesPage (lowest (leaving s area)) ∷ found ChainsOverlap (lowest (overlapping (reached s area))) ∷ [])
 
 -- ---- what callers owe
-
--- each of the places is eight bytes or more from this one
-abbrev pub KeepsApart : ℕ → List ℕ → Type 0
-KeepsApart a [] = Unit {0}
-KeepsApart a (p ∷ places) = ((a + 8 ≤ p) ⊎ (p + 8 ≤ a)) × KeepsApart a places
-
--- no two of the places are less than eight bytes apart
-abbrev pub AreApart : List ℕ → Type 0
-AreApart [] = Unit {0}
-AreApart (a ∷ places) = KeepsApart a places × AreApart places
 
 -- one run of ones whose lowest bit is 2 or more
 pub record IsRun (mask : ℕ) : Type 0 where

@@ -1,10 +1,8 @@
 -- The bytes of slide information of version 2: a head of 40 bytes, and two arrays of 16-bit numbers.
-use Rattle.std.specs.Prelude.{◌≡◌, ◌≤◌, ℕ, zero, suc, ◌+◌, ◌*◌, ◌/◌, ◌^◌, Bool, ◌&&◌, not, List, [], ◌∷◌, ◌++◌, length, nat_eq, nat_lt, nat_le, Option, Some, None, if◌then◌else◌}
+use Rattle.std.specs.Prelude.{ℕ, zero, suc, ◌+◌, ◌*◌, ◌/◌, ◌^◌, Bool, ◌&&◌, not, List, [], ◌∷◌, ◌++◌, length, nat_eq, nat_lt, nat_le, Option, Some, None, if◌then◌else◌}
 use Rattle.std.specs.Int.{trailing_zeros, trailing_ones, w64}
 use Rattle.dsc_base.specs.Numbers.{number_at, little_bytes}
 use Rattle.dsc_base.specs.declared.fault.Finding.{Finding}
-use Rattle.dsc_base.specs.declared.fault.ViewFault.{ViewFault}
-use Rattle.dsc_base.specs.declared.fault.ViewFault.TheVariants.{Broken, Memory}
 use Rattle.dsc_base.specs.declared.finding_kind.FindingKind.TheVariants.{SlideInfoShape, MaskShape}
 use Rattle.slide_chain.specs.Chains.{Slide}
 
@@ -21,6 +19,10 @@ info_bytes s =
     ++ (little_bytes 4 (40 + 2 * length s.starts) ++ (little_bytes 4 (length s.extras)
     ++ (little_bytes 8 s.mask ++ (little_bytes 8 s.value_add
     ++ (halves s.starts ++ halves s.extras))))))))
+
+-- how many bytes they are
+abbrev pub info_size : Slide → ℕ
+info_size s = length (info_bytes s)
 
 -- so many numbers of two bytes from a place on
 unfoldable pub halves_at : ℕ → List ℕ → ℕ → List ℕ
@@ -46,15 +48,6 @@ is_shaped size bytes =
     && (nat_le (number_at 4 bytes 8 + 2 * number_at 4 bytes 12) (length bytes)
     && nat_le (number_at 4 bytes 16 + 2 * number_at 4 bytes 20) (length bytes)))))
 
--- the same as facts
-pub record HasShape (size : ℕ) (bytes : List ℕ) : Type 0 where
-  pub head : 40 ≤ length bytes
-  pub version : number_at 4 bytes 0 ≡ 2
-  pub page : number_at 4 bytes 4 ≡ 4096
-  pub pages : number_at 4 bytes 12 ≡ size / 4096
-  pub starts : number_at 4 bytes 8 + 2 * number_at 4 bytes 12 ≤ length bytes
-  pub extras : number_at 4 bytes 16 + 2 * number_at 4 bytes 20 ≤ length bytes
-
 -- whether the mask is one run of ones whose lowest bit is 2 or more: above the ones that begin at its lowest there is none
 unfoldable pub is_run : ℕ → Bool
 is_run mask =
@@ -66,8 +59,3 @@ unfoldable pub info_finding : ℕ → List ℕ → Option Finding
 info_finding size bytes =
     if not (is_shaped size bytes) then Some record { kind = SlideInfoShape; image = 0; at = 0x38 }
     else (if not (is_run (number_at 8 bytes 24)) then Some record { kind = MaskShape; image = 0; at = 0x38 } else None)
-
--- why a reader refused: what it found, or want of memory
-abbrev pub ViewCause : Option Finding → ViewFault → Type 0
-ViewCause finding (Broken f) = finding ≡ Some f
-ViewCause finding Memory = Unit {0}

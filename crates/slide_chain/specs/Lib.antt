@@ -1,6 +1,5 @@
 pub mod Chains
 pub mod Info
+pub mod Linked
 pub mod Making
-pub mod Marks
-pub mod Reading
-pub mod Thinning
+pub mod Steps

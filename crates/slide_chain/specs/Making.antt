@@ -1,10 +1,11 @@
 -- How words of the data are linked into chains: which word leads to which, the starts and extras, and the delta bits.
 -- The words are places in the data, rising. A delta has as many bits as an option says, from bit 48 up.
-use Rattle.std.specs.Prelude.{◌≡◌, ◌≤◌, ◌<◌, ℕ, zero, suc, ◌+◌, ◌-◌, ◌*◌, ◌/◌, ◌%◌, ◌^◌, ◌&&◌, List, [], ◌∷◌, ◌++◌, length, nat_eq, nat_lt, nat_le, bit_and, if◌then◌else◌}
+use Rattle.std.specs.Prelude.{◌≡◌, ◌≤◌, ◌<◌, ℕ, zero, suc, ◌+◌, ◌-◌, ◌*◌, ◌/◌, ◌%◌, ◌^◌, ◌&&◌, List, [], ◌∷◌, ◌++◌, length, nat_eq, nat_lt, nat_le, Option, Some, None, option_map, bit_and, if◌then◌else◌}
 use Rattle.dsc_base.specs.Numbers.{number_at}
 use Rattle.dsc_base.specs.Edits.{Change}
-use Rattle.dsc_base.specs.declared.fault.Fault.{Fault}
-use Rattle.dsc_base.specs.declared.fault.Fault.TheVariants.{Broken, Memory}
+use Rattle.dsc_base.specs.Refusals.{broken, in_image}
+use Rattle.dsc_base.specs.declared.fault.Break.{Break}
+use Rattle.dsc_base.specs.declared.fault.Site.{Site}
 use Rattle.dsc_base.specs.declared.rule.Rule.TheVariants.{TooManyExtras}
 use Rattle.slide_chain.specs.declared.words.ChainWord.{ChainWord}
 use Rattle.slide_chain.specs.Chains.{Slide}
@@ -117,7 +118,16 @@ given area (a ∷ words) = if nat_eq (number_at 8 area a) 0 then given area word
 abbrev pub raising : ℕ → ℕ → Change
 raising slide at = record { at = at; width = 8; becomes = λ v. if nat_eq v 0 then 0 else (v + slide) % 2 ^ 64 }
 
--- why no information was made: too many extras, of which it tells the number, or want of memory
-abbrev pub MakeCause : ℕ → ℕ → List ℕ → Fault → Type 0
-MakeCause bits size words (Broken site) = (site ≡ record { rule = TooManyExtras; at = length (info_of bits size words).extras }) × (0x4000 < length (info_of bits size words).extras)
-MakeCause bits size words Memory = Unit {0}
+-- ---- what is refused
+
+-- more extras than starts can lead to: how many these words need
+unfoldable pub extras_over : ℕ → ℕ → List ℕ → Option ℕ
+extras_over bits size words = if nat_lt 0x4000 (length (info_of bits size words).extras) then Some (length (info_of bits size words).extras) else None
+
+-- the same as a broken rule, shown at their number
+abbrev pub extras_site : ℕ → ℕ → List ℕ → Option Site
+extras_site bits size words = broken TooManyExtras (extras_over bits size words)
+
+-- and as the first break of a set, which is shown at image 0: bits of a delta, bytes of data, words
+abbrev pub chains_break : ℕ → ℕ → List ℕ → Option Break
+chains_break bits size words = option_map (in_image 0) (extras_site bits size words)

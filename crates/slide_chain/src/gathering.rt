@@ -1,7 +1,7 @@
 // The chain words of one page, out of its counters.
 ghost use Rattle.std.specs.Prelude.{◌≡◌, ℕ, ◌+◌, ◌*◌, ◌^◌, ◌<◌, ◌≤◌, ◌&&◌, List, [], ◌∷◌, ◌++◌, length, slice_index, nat_eq, nat_lt, Some, IfOk, OnOk, IfSome, IfNone, if◌then◌else◌};
-ghost use Rattle.slide_chain.specs.Chains.{in_order, words_at, overlapping, least};
-ghost use Rattle.slide_chain.specs.Marks.{AreCounted};
+ghost use Rattle.slide_chain.specs.Chains.{in_order, words_at, overlapping, lowest};
+ghost use Rattle.slide_chain.specs.Steps.Marks.{AreCounted};
 
 use crate::ChainWord;
 use crate::sieve::PLACES;
@@ -20,7 +20,7 @@ pub(crate) fn gather(
     requires places { length marks.now ≡ 1023 }
     requires inside { page + 4096 ≤ length area.now }
     ensures overlaps { IfOk result (λ o. IfSome o (λ at. (places : List ℕ) → AreCounted marks.now page places
-        → least (overlapping places) ≡ Some at)) }
+        → lowest (overlapping places) ≡ Some at)) }
     ensures apart { IfOk result (λ o. IfNone o ((places : List ℕ) → AreCounted marks.now page places
         → overlapping places ≡ [])) }
     ensures words { IfOk result (λ o. IfNone o ((places : List ℕ) → AreCounted marks.now page places

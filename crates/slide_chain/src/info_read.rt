@@ -2,9 +2,11 @@
 ghost use Rattle.std.specs.Prelude.{◌≡◌, ◌+◌, ◌-◌, ◌*◌, ◌/◌, ◌%◌, ◌^◌, ◌<◌, ◌≤◌, Option, None, true, length, nat_eq, nat_le, IfOk, OnOk, IfErr};
 ghost use Rattle.std.specs.Int.{trailing_ones, w64};
 ghost use Rattle.dsc_base.specs.Numbers.{number_at};
+ghost use Rattle.dsc_base.specs.Refusals.{IsViewRefusal};
 ghost use Rattle.dsc_base.specs.declared.fault.ViewFault.TheVariants.{Broken};
 ghost use Rattle.slide_chain.specs.Chains.{Slide, IsRun};
-ghost use Rattle.slide_chain.specs.Info.{info_read, halves_at, HasShape, is_shaped, is_run, info_finding, ViewCause};
+ghost use Rattle.slide_chain.specs.Info.{info_read, halves_at, is_shaped, is_run, info_finding};
+ghost use Rattle.slide_chain.specs.Steps.Shape.{HasShape};
 
 use crate::SlideInfo;
 use dsc_base::{Finding, FindingKind, NoMemory, ViewFault, get_u16, get_u32, get_u64};
@@ -22,7 +24,7 @@ pub fn read_slide_info(alloc: Global, bytes: &[u8], data_size: u64) -> Result<Sl
     ensures sound { OnOk result (info_finding data_size bytes.now ≡ None) }
     ensures run { IfOk result (λ i. IsRun i.mask) }
     ensures pages { IfOk result (λ i. length i.starts * 4096 ≡ data_size) }
-    ensures cause { IfErr result (ViewCause (info_finding data_size bytes.now)) }
+    ensures cause { IfErr result (IsViewRefusal (info_finding data_size bytes.now)) }
 {
     if !is_shaped(bytes, data_size) {
         return Err(found(FindingKind::SlideInfoShape));

@@ -8,6 +8,7 @@ mod info_bytes;
 mod info_read;
 mod making;
 mod reading;
+mod rising;
 mod runs;
 mod sieve;
 mod thinning;

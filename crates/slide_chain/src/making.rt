@@ -1,10 +1,11 @@
 // Slide information of given words.
-ghost use Rattle.std.specs.Prelude.{◌≡◌, ◌+◌, ◌-◌, ◌*◌, ◌/◌, ◌%◌, ◌^◌, ◌<◌, ◌≤◌, ◌||◌, List, [], ◌∷◌, ◌++◌, length, drop, take, slice_index, nat_eq, nat_lt, IfOk, OnOk, IfErr, if◌then◌else◌};
+ghost use Rattle.std.specs.Prelude.{◌≡◌, ◌+◌, ◌-◌, ◌*◌, ◌/◌, ◌%◌, ◌^◌, ◌<◌, ◌≤◌, ◌||◌, List, [], ◌∷◌, ◌++◌, length, drop, take, slice_index, nat_eq, nat_lt, IfOk, OnOk, if◌then◌else◌};
+ghost use Rattle.dsc_base.specs.Refusals.{Refuses};
 ghost use Rattle.slide_chain.specs.Chains.{Slide};
-ghost use Rattle.slide_chain.specs.Making.{step, firsts, front, rest, page_firsts, marked_last, extras_for, start_for, starts_of, extras_of, info_of, AreWords, AllBelow, IsMade, MakeCause};
+ghost use Rattle.slide_chain.specs.Making.{step, firsts, front, rest, page_firsts, marked_last, extras_for, start_for, starts_of, extras_of, info_of, AreWords, AllBelow, IsMade, extras_site};
 
 use crate::SlideInfo;
-use crate::writing::step_between;
+use crate::rising::{step_between, words_below};
 use dsc_base::{Fault, NoMemory, Rule, Site};
 use std::alloc::Global;
 
@@ -12,21 +13,23 @@ use std::alloc::Global;
 const EXTRAS_LIMIT: usize = 0x4000;
 
 /// The slide information of `data_size` bytes with chain words at the places `words`, for deltas of
-/// `bits` bits. `TooManyExtras` says how many extras are needed where these are more than 16,384.
+/// `bits` bits, from 1 to 16. `TooManyExtras` says how many extras are needed where these are more than
+/// 16,384, as many as starts can lead to.
 pub fn make_slide_info(
     alloc: Global,
     data_size: u64,
     words: &[u64],
     bits: u32,
 ) -> Result<SlideInfo, Fault>
-    requires bits { bits ≡ 16 }
+    requires bits { 1 ≤ bits }
+    requires most { bits ≤ 16 }
     requires pages { data_size % 4096 ≡ 0 }
     requires room { data_size ≤ 0x20000000 }
     requires words { AreWords 0 words.now }
     requires inside { AllBelow data_size words.now }
     ensures info { IfOk result (λ i. i ≡ info_of bits data_size words.now) }
     ensures made { IfOk result (λ i. IsMade i data_size words.now) }
-    ensures cause { IfErr result (MakeCause bits data_size words.now) }
+    ensures cause { Refuses (extras_site bits data_size words.now) result }
 {
     let limit = (1u64 << bits) - 1;
     let (starts, extras) = link_pages(alloc, data_size / 4096, words, limit)?;
@@ -70,20 +73,6 @@ fn link_pages(
         passed = end;
     }
     Ok((starts, extras))
-}
-
-/// How many words stand before the first one that isn't below a place.
-fn words_below(words: &[u64], end: u64) -> usize
-    ensures inside { result ≤ length words.now }
-    ensures front { take result words.now ≡ front end words.now }
-    ensures rest { drop result words.now ≡ rest end words.now }
-{
-    for (i, word) in words.iter().enumerate() {
-        if *word >= end {
-            return i;
-        }
-    }
-    words.len()
 }
 
 /// Lists the words that begin a chain, in place of what was listed.

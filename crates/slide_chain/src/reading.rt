@@ -1,8 +1,8 @@
 // The chain words of the data, read back.
 ghost use Rattle.std.specs.Prelude.{◌≡◌, ℕ, ◌+◌, ◌*◌, ◌≤◌, ◌<◌, List, [], length, Option, None, Some, IfOk, OnOk, IfErr, IfSome, IfNone};
-ghost use Rattle.slide_chain.specs.Chains.{Slide, slide_of, Suits, chain_words, chain_finding, leaving, least};
-ghost use Rattle.slide_chain.specs.Info.{ViewCause};
-ghost use Rattle.slide_chain.specs.Reading.{WalkIs};
+ghost use Rattle.dsc_base.specs.Refusals.{IsViewRefusal};
+ghost use Rattle.slide_chain.specs.Chains.{Slide, slide_of, Suits, chain_words, chain_finding, leaving, lowest};
+ghost use Rattle.slide_chain.specs.Steps.Reading.{WalkIs};
 
 use crate::gathering::gather;
 use crate::runs::endless_page;
@@ -23,7 +23,7 @@ pub fn read_chains(
     requires { Suits info.now area.now }
     ensures words { IfOk result (λ v. v.items ≡ chain_words info.now area.now) }
     ensures sound { OnOk result (chain_finding info.now area.now ≡ None) }
-    ensures cause { IfErr result (ViewCause (chain_finding info.now area.now)) }
+    ensures cause { IfErr result (IsViewRefusal (chain_finding info.now area.now)) }
 {
     let words = read_words(
         alloc,
@@ -48,7 +48,7 @@ fn read_words(
     ensures words { IfOk result (λ v. v.items ≡ chain_words
         (slide_of mask value_add starts.now extras.now) area.now) }
     ensures sound { OnOk result (chain_finding (slide_of mask value_add starts.now extras.now) area.now ≡ None) }
-    ensures cause { IfErr result (ViewCause
+    ensures cause { IfErr result (IsViewRefusal
         (chain_finding (slide_of mask value_add starts.now extras.now) area.now)) }
 {
     if let Some(page) = endless_page(starts, extras) {
@@ -132,7 +132,7 @@ fn first_leaving(
 ) -> Option<usize>
     requires suits { Suits (slide_of mask 0 starts.now extras.now) area.now }
     requires places { length marks.old ≡ 1023 }
-    ensures { result ≡ least (leaving (slide_of mask 0 starts.now extras.now) area.now) }
+    ensures { result ≡ lowest (leaving (slide_of mask 0 starts.now extras.now) area.now) }
 {
     for (i, start) in starts.iter().enumerate() {
         if let Some(at) = sift_page(marks, area, mask, extras, i * 4096, *start) {

@@ -4,8 +4,8 @@
 ghost use Rattle.std.specs.Prelude.{◌≡◌, ℕ, ◌+◌, ◌-◌, ◌*◌, ◌/◌, ◌%◌, ◌^◌, ◌<◌, ◌≤◌, ◌||◌, Bool, true, false, List, [], length, drop, slice_index, slice_set, nat_eq, nat_lt, nat_le, filter, Option, Some, IfSome, IfNone, if◌then◌else◌};
 ghost use Rattle.std.specs.List.{flat_map, list_any};
 ghost use Rattle.dsc_base.specs.Numbers.{number_at};
-ghost use Rattle.slide_chain.specs.Chains.{IsRun, delta_of, chain, heads, extra_heads, page_reached, page_leaving, least};
-ghost use Rattle.slide_chain.specs.Marks.{counted, AreCounted, followed};
+ghost use Rattle.slide_chain.specs.Chains.{IsRun, delta_of, chain, heads, extra_heads, page_reached, page_leaving, lowest};
+ghost use Rattle.slide_chain.specs.Steps.Marks.{counted, AreCounted, followed};
 
 use crate::words::delta;
 use dsc_base::get_u64;
@@ -32,7 +32,7 @@ pub(crate) fn sift_page(
     requires places { length marks.old ≡ 1023 }
     requires inside { page + 4096 ≤ length area.now }
     requires run { IsRun mask }
-    ensures leaves { IfSome result (λ at. least (page_leaving mask extras.now area.now page start) ≡ Some at) }
+    ensures leaves { IfSome result (λ at. lowest (page_leaving mask extras.now area.now page start) ≡ Some at) }
     ensures stays { IfNone result (page_leaving mask extras.now area.now page start ≡ []) }
     ensures counted { IfNone result (AreCounted marks.new page (page_reached mask extras.now area.now page start)) }
 {
@@ -116,7 +116,7 @@ fn sift(marks: &mut [u64], area: &[u8], mask: u64, page: usize) -> Option<usize>
     ensures stays { IfNone result ((k : ℕ) → k < 1023 → 0 < slice_index marks.new k
         → page + k * 4 + delta_of mask (number_at 8 area.now (page + k * 4)) ≤ page + 0xFF8) }
     ensures leaves { IfSome result (λ at. (places : List ℕ) → AreCounted marks.old page places
-        → least (filter (λ a. nat_lt (page + 0xFF8) (a + delta_of mask (number_at 8 area.now a)))
+        → lowest (filter (λ a. nat_lt (page + 0xFF8) (a + delta_of mask (number_at 8 area.now a)))
         (flat_map (chain mask area.now (page + 0xFF8) 1024) places)) ≡ Some at) }
 {
     for k in 0..PLACES {

@@ -2,8 +2,8 @@
 // again, and each of them is to cost no more than the words that it has.
 ghost use Rattle.std.specs.Prelude.{◌≡◌, ℕ, ◌+◌, ◌*◌, ◌%◌, ◌≤◌, ◌<◌, ◌^◌, min, Bool, true, false, List, [], ◌∷◌, ◌++◌, ◌&&◌, not, nat_eq, nat_lt, length, drop, take, slice_index, IfOk, OnOk, if◌then◌else◌};
 ghost use Rattle.slide_chain.specs.Chains.{heads, extra_heads, is_marked};
-ghost use Rattle.slide_chain.specs.Reading.{SamePlaces, SameHeads};
-ghost use Rattle.slide_chain.specs.Thinning.{Repeats, kept_extras, moved_start};
+ghost use Rattle.slide_chain.specs.Steps.Reading.{SamePlaces, SameHeads};
+ghost use Rattle.slide_chain.specs.Steps.Thinning.{Repeats, kept_extras, moved_start};
 
 use crate::sieve::{MARKED, NO_WORD};
 use dsc_base::NoMemory;
@@ -132,7 +132,7 @@ fn push_extra(extra: u16, is_repeated: bool, few: &mut Vec<u16>) -> Result<(), N
 }
 
 /// The start that leads to the extras that were kept of those that another one leads to.
-#[tactic(auto, unfolding(crate::specs::Thinning::moved_start))]
+#[tactic(auto, unfolding(crate::specs::Steps::Thinning::moved_start))]
 fn move_start(start: u16, places: &[u16]) -> u16
     ensures { result ≡ moved_start start places.now }
 {

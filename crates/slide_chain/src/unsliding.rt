@@ -3,7 +3,8 @@ ghost use Rattle.std.specs.Prelude.{◌≡◌, ℕ, ◌+◌, ◌*◌, ◌≤◌,
 ghost use Rattle.std.specs.List.{flat_map};
 ghost use Rattle.dsc_base.specs.Numbers.{number_at, put_number};
 ghost use Rattle.dsc_base.specs.Edits.{change_all};
-ghost use Rattle.slide_chain.specs.Chains.{Slide, slide_of, Suits, IsRun, AreApart, delta_of, moved, moving, chain, extra_heads, heads, page_reached, page_leaving, each_page, chain_finding, slid_area};
+ghost use Rattle.slide_chain.specs.Chains.{Slide, slide_of, Suits, IsRun, delta_of, moved, moving, chain, extra_heads, heads, page_reached, page_leaving, each_page, chain_finding, slid_area};
+ghost use Rattle.slide_chain.specs.Steps.Apart.{AreApart};
 
 use crate::SlideInfo;
 use crate::sieve::{MARKED, NO_WORD, PLACES, skipped};

@@ -1,7 +1,7 @@
 -- Each turn takes the words of one page.
-use Rattle.std.proofs.Common.{◌≡◌, ◌+◌, ◌-◌, ◌*◌, ◌≤◌, ◌∙◌, ◌++◌, ◌∷◌, [], suc, List, take, drop, length, length-drop, rules, vec_len, ℕ, ap, subst, arith}
+use Rattle.std.proofs.Common.{◌≡◌, ◌+◌, ◌-◌, ◌*◌, ◌≤◌, ◌∙◌, ◌++◌, ◌∷◌, [], suc, List, take, drop, length, length-drop, rules, vec_len, ℕ, ap, subst, sym, arith}
 use Rattle.std.proofs.lemmas.List.{drop-drop, take_rest}
-use Rattle.slide_chain.specs.Making.{page_firsts, firsts, front, rest, extras_for, extras_of, start_for}
+use Rattle.slide_chain.specs.Making.{page_firsts, firsts, front, rest, extras_for, extras_of, start_for, AreWords}
 use Rattle.slide_chain.proofs.ListLaws.{words-drop, words-take}
 use Rattle.slide_chain.proofs.MakeLaws.{PagesGo, pages-more, pages-none, pages-end-extras, pages-end-starts}
 use Rattle.slide_chain.proofs.making.link_pages.Goals as goal
@@ -41,6 +41,11 @@ pub loop-page-init : goal.loop-page-init
 loop-page-init c = record {
   inside = omega arith;
   go = pages-none c.args.limit c.args.pages (c.args.pages - 0) c.in_ok-starts.starts.items c.new-extras.result.items c.args.words.now c.in_ok-starts.ensures.items c.new-extras.ensures.items (omega arith);
+}
+
+pub words_below-requires : goal.words_below-requires
+words_below-requires c = record {
+  rises = subst (AreWords 0) (sym (take_rest c.args.words.now c.loop-page.passed)) (words-drop c.loop-page.passed c.args.words.now c.requires.words);
 }
 
 pub find_firsts-requires : goal.find_firsts-requires

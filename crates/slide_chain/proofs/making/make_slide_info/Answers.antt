@@ -1,10 +1,9 @@
 -- The pages give the starts and extras, and the mask has as many ones as there are bits.
-use Rattle.std.proofs.Common.{◌≡◌, ◌-◌, ◌*◌, ◌/◌, ◌^◌, ◌≤◌, ◌<◌, ◌%◌, ◌∙◌, List, length, ℕ, sym, ap, ap₂, arith, rules, vec_len}
-use Rattle.dsc_base.specs.declared.fault.Site.{Site}
-use Rattle.dsc_base.specs.declared.rule.Rule.TheVariants.{TooManyExtras}
+use Rattle.std.proofs.Common.{◌≡◌, ◌-◌, ◌*◌, ◌/◌, ◌^◌, ◌≤◌, ◌<◌, ◌%◌, ◌∙◌, List, length, ℕ, sym, ap, ap₂, subst, arith, rules, vec_len}
 use Rattle.slide_chain.specs.Chains.{Slide}
 use Rattle.slide_chain.specs.Making.{info_of, page_firsts, extras_of, starts_of}
 use Rattle.slide_chain.proofs.MakeLaws.{ones_of, mask_of}
+use Rattle.slide_chain.proofs.RefusedLaws.{many_refused, few_accepted}
 use Rattle.slide_chain.proofs.making.make_slide_info.Goals as goal
 
 pub returns-then-len-gt-EXTRAS_LIMIT-clause-cause : goal.returns-then-len-gt-EXTRAS_LIMIT-clause-cause
@@ -18,7 +17,7 @@ returns-then-len-gt-EXTRAS_LIMIT-clause-cause c =
     c.len-then-len-gt-EXTRAS_LIMIT.ensures ∙ (sized ∙ ap (λ (l : List ℕ). length l) extras) in
     let first : c.len.result ≡ c.len-then-len-gt-EXTRAS_LIMIT.result = c.len.ensures ∙ sym c.len-then-len-gt-EXTRAS_LIMIT.ensures in
     let many : 0x4000 < c.len.result = c.if-len-gt-EXTRAS_LIMIT.true in
-    (ap (λ (n : ℕ). let s : Site = record { rule = TooManyExtras; at = n } in s) count, omega (arith, first, count, many))
+    many_refused c.args.bits c.args.data_size c.len-then-len-gt-EXTRAS_LIMIT.result c.args.words.now count (omega (arith, first, many))
 
 pub returns-clause-info : goal.returns-clause-info
 unfolding info_of
@@ -45,3 +44,8 @@ returns-clause-made c =
       made = returns-clause-info c;
       few = omega (arith, fit, sized, c.len.ensures);
     }
+
+pub returns-clause-cause : goal.returns-clause-cause
+returns-clause-cause c =
+    few_accepted c.args.bits c.args.data_size c.args.words.now
+    (subst (λ (s : Slide). length s.extras ≤ 0x4000) (returns-clause-info c) (returns-clause-made c).few)

@@ -1,5 +1,5 @@
 use Rattle.std.proofs.Common.{sym, ap, refl}
-use Rattle.slide_chain.specs.Chains.{leaving, least, each_page}
+use Rattle.slide_chain.specs.Chains.{leaving, lowest, each_page}
 use Rattle.slide_chain.proofs.ReadLaws.{stays-more, leaves-here, leaves-nowhere}
 use Rattle.slide_chain.proofs.reading.first_leaving.Goals as goal
 
@@ -15,5 +15,5 @@ pub loop-i-preserved : goal.loop-i-preserved
 loop-i-preserved c = stays-more c.args.mask c.args.extras.now c.args.area.now c.args.starts.now c.loop-i.i c.loop-i-test.true c.in_default.ensures.stays c.loop-i.invariant
 
 pub returns : goal.returns
-unfolding leaving least
-returns c = sym (ap least (leaves-nowhere c.args.mask c.args.extras.now c.args.area.now c.args.starts.now c.loop-i.i c.loop-i-test.false c.loop-i.invariant))
+unfolding leaving lowest
+returns c = sym (ap lowest (leaves-nowhere c.args.mask c.args.extras.now c.args.area.now c.args.starts.now c.loop-i.i c.loop-i-test.false c.loop-i.invariant))

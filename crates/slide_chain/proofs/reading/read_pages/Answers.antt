@@ -1,7 +1,7 @@
 use Rattle.std.proofs.Common.{◌≡◌, ◌*◌, ◌++◌, List, [], ℕ, get_or}
 use Rattle.std.specs.Prelude.{Some}
-use Rattle.slide_chain.specs.Chains.{leaving, reached, chain_words, least, page_reached, overlapping, words_at, in_order}
-use Rattle.slide_chain.specs.Marks.{AreCounted}
+use Rattle.slide_chain.specs.Chains.{leaving, reached, chain_words, lowest, page_reached, overlapping, words_at, in_order}
+use Rattle.slide_chain.specs.Steps.Marks.{AreCounted}
 use Rattle.slide_chain.proofs.PageLaws.{some-is, none-is}
 use Rattle.slide_chain.proofs.ReadLaws.{WalkedAll, walked-none, walked-more, walked-all, leaves-here, overlaps-here}
 use Rattle.slide_chain.proofs.reading.read_pages.Goals as goal
@@ -16,8 +16,8 @@ returns-in-Some c = leaves-here c.args.mask c.args.extras.now c.args.area.now c.
 pub returns-in-Some-2 : goal.returns-in-Some-2
 unfolding reached
 returns-in-Some-2 c =
-    let here : least (overlapping (page_reached c.args.mask c.args.extras.now c.args.area.now (c.loop-i.i * 4096) (get_or c.args.starts.now c.loop-i.i 0))) ≡ Some c.in-Some-2.at =
-    some-is c.in_ok-at.field-0 c.in-Some-2.at (λ at. (places : List ℕ) → AreCounted c.sift_page.new.marks (c.loop-i.i * 4096) places → least (overlapping places) ≡ Some at)
+    let here : lowest (overlapping (page_reached c.args.mask c.args.extras.now c.args.area.now (c.loop-i.i * 4096) (get_or c.args.starts.now c.loop-i.i 0))) ≡ Some c.in-Some-2.at =
+    some-is c.in_ok-at.field-0 c.in-Some-2.at (λ at. (places : List ℕ) → AreCounted c.sift_page.new.marks (c.loop-i.i * 4096) places → lowest (overlapping places) ≡ Some at)
     c.in-Some-2.is c.in_ok-at.ensures.overlaps (page_reached c.args.mask c.args.extras.now c.args.area.now (c.loop-i.i * 4096) (get_or c.args.starts.now c.loop-i.i 0)) c.in_default.ensures.counted in
     overlaps-here c.args.mask c.args.value_add c.args.extras.now c.args.area.now c.args.starts.now c.loop-i.i c.in-Some-2.at c.loop-i.words.items c.loop-i-test.true here c.loop-i.invariant
 

@@ -2,10 +2,10 @@
 use Rattle.std.proofs.Common.{◌≡◌, ◌∙◌, List, ℕ, sym, ap, subst}
 use Rattle.std.specs.Prelude.{Some, None}
 use Rattle.dsc_base.specs.declared.fault.Finding.{Finding}
-use Rattle.slide_chain.specs.Chains.{Slide, slide_of, leaving, least}
+use Rattle.slide_chain.specs.Chains.{Slide, slide_of, leaving, lowest}
 use Rattle.slide_chain.specs.declared.reading.Walk.TheVariants.{Sound, Leaves, Overlaps}
-use Rattle.slide_chain.specs.Reading.{WalkIs, SameHeads}
-use Rattle.slide_chain.proofs.FindingLaws.{finding-ends, finding-leaves, finding-overlaps, finding-none, least-leaving}
+use Rattle.slide_chain.specs.Steps.Reading.{WalkIs, SameHeads}
+use Rattle.slide_chain.proofs.FindingLaws.{finding-ends, finding-leaves, finding-overlaps, finding-none, lowest-leaving}
 use Rattle.slide_chain.proofs.reading.read_words.Goals as goal
 
 pub returns-in-Some-clause-cause : goal.returns-in-Some-clause-cause
@@ -33,8 +33,8 @@ returns-in-Some-first_leaving-clause-cause c =
     let same : SameHeads c.args.starts.now c.args.extras.now c.deref.result.now c.deref-in-Overlaps.result.now =
     subst (λ (l : List ℕ). SameHeads c.args.starts.now c.args.extras.now l c.deref-in-Overlaps.result.now) (sym c.deref.ensures.value)
     (subst (λ (l : List ℕ). SameHeads c.args.starts.now c.args.extras.now c.in_ok-few_starts-in-Overlaps.few_starts.items l) (sym c.deref-in-Overlaps.ensures.value) (c.in_ok-few_starts-in-Overlaps.ensures {u = tt})) in
-    let leaves : least (leaving (slide_of c.args.mask c.args.value_add c.args.starts.now c.args.extras.now) c.args.area.now) ≡ Some c.in-Some-first_leaving.leaves =
-    sym (least-leaving c.args.mask c.args.value_add c.args.starts.now c.args.extras.now c.deref.result.now c.deref-in-Overlaps.result.now c.args.area.now same) ∙ sym c.first_leaving.ensures ∙ c.in-Some-first_leaving.is in
+    let leaves : lowest (leaving (slide_of c.args.mask c.args.value_add c.args.starts.now c.args.extras.now) c.args.area.now) ≡ Some c.in-Some-first_leaving.leaves =
+    sym (lowest-leaving c.args.mask c.args.value_add c.args.starts.now c.args.extras.now c.deref.result.now c.deref-in-Overlaps.result.now c.args.area.now same) ∙ sym c.first_leaving.ensures ∙ c.in-Some-first_leaving.is in
     finding-leaves s c.args.area.now c.in-Some-first_leaving.leaves (sym c.endless_page.ensures ∙ c.in_default.is) leaves ∙ ap (λ (f : Finding). Some f) (sym c.finding-in-Some-first_leaving.ensures)
 
 pub returns-clause-cause : goal.returns-clause-cause
@@ -43,8 +43,8 @@ returns-clause-cause c =
     let same : SameHeads c.args.starts.now c.args.extras.now c.deref.result.now c.deref-in-Overlaps.result.now =
     subst (λ (l : List ℕ). SameHeads c.args.starts.now c.args.extras.now l c.deref-in-Overlaps.result.now) (sym c.deref.ensures.value)
     (subst (λ (l : List ℕ). SameHeads c.args.starts.now c.args.extras.now c.in_ok-few_starts-in-Overlaps.few_starts.items l) (sym c.deref-in-Overlaps.ensures.value) (c.in_ok-few_starts-in-Overlaps.ensures {u = tt})) in
-    let stays : least (leaving (slide_of c.args.mask c.args.value_add c.args.starts.now c.args.extras.now) c.args.area.now) ≡ None =
-    sym (least-leaving c.args.mask c.args.value_add c.args.starts.now c.args.extras.now c.deref.result.now c.deref-in-Overlaps.result.now c.args.area.now same) ∙ sym c.first_leaving.ensures ∙ c.in-None.is in
+    let stays : lowest (leaving (slide_of c.args.mask c.args.value_add c.args.starts.now c.args.extras.now) c.args.area.now) ≡ None =
+    sym (lowest-leaving c.args.mask c.args.value_add c.args.starts.now c.args.extras.now c.deref.result.now c.deref-in-Overlaps.result.now c.args.area.now same) ∙ sym c.first_leaving.ensures ∙ c.in-None.is in
     let walked : WalkIs (slide_of c.args.mask c.args.value_add c.args.starts.now c.args.extras.now) c.args.area.now c.read_pages.new.words.items (Overlaps c.in-Overlaps.at) =
     subst (WalkIs (slide_of c.args.mask c.args.value_add c.args.starts.now c.args.extras.now) c.args.area.now c.read_pages.new.words.items) c.in-Overlaps.is (c.in_ok-read_pages.ensures {u = tt}) in
     finding-overlaps s c.args.area.now c.in-Overlaps.at (sym c.endless_page.ensures ∙ c.in_default.is) stays walked ∙ ap (λ (f : Finding). Some f) (sym c.finding-in-None.ensures)

@@ -4,7 +4,7 @@ use Rattle.std.specs.Prelude.{nat_lt}
 use Rattle.std.specs.List.{list_any}
 use Rattle.std.proofs.lemmas.Bool.{ltb-true, ltb-false}
 use Rattle.std.proofs.lemmas.List.{take_rest}
-use Rattle.slide_chain.specs.Marks.{counted, AreCounted}
+use Rattle.slide_chain.specs.Steps.Marks.{counted, AreCounted}
 use Rattle.slide_chain.proofs.MarkLaws.{no-heads, single-head, single-outside, many-heads, filled-empty, few-push}
 use Rattle.slide_chain.proofs.sieve.count_heads.Goals as goal
 

@@ -3,8 +3,8 @@ use Rattle.std.proofs.Common.{◌≡◌, ◌∙◌, ◌+◌, ◌*◌, ◌≤◌,
 use Rattle.std.specs.Prelude.{Some, filter}
 use Rattle.std.specs.List.{flat_map}
 use Rattle.dsc_base.specs.Numbers.{number_at}
-use Rattle.slide_chain.specs.Chains.{delta_of, chain, heads, page_reached, page_leaving, least}
-use Rattle.slide_chain.specs.Marks.{AreCounted}
+use Rattle.slide_chain.specs.Chains.{delta_of, chain, heads, page_reached, page_leaving, lowest}
+use Rattle.slide_chain.specs.Steps.Marks.{AreCounted}
 use Rattle.slide_chain.proofs.SieveLaws.{leaves}
 use Rattle.slide_chain.proofs.PageLaws.{leaving-heads, leaving-words, leaving-none, some-then, none-then, both-none}
 use Rattle.slide_chain.proofs.sieve.sift_page.Goals as goal
@@ -18,9 +18,9 @@ unfolding page_reached
 returns-clause-leaves c =
     let counted : AreCounted c.count_heads.new.marks c.args.page (heads c.args.extras.now c.args.page c.args.start) = c.count_heads.ensures.counted c.if-not-count_heads.false c.args.page in
     some-then c.sift.result
-    (λ at. (places : List ℕ) → AreCounted c.count_heads.new.marks c.args.page places → least (filter (leaves c.args.mask c.args.area.now c.args.page) (flat_map (chain c.args.mask c.args.area.now (c.args.page + 0xFF8) 1024) places)) ≡ Some at)
-    (λ at. least (page_leaving c.args.mask c.args.extras.now c.args.area.now c.args.page c.args.start) ≡ Some at) c.sift.ensures.leaves
-    (λ at tells. ap least (leaving-words c.args.mask c.count_heads.new.marks c.args.extras.now c.args.area.now c.args.page c.args.start counted) ∙ tells (heads c.args.extras.now c.args.page c.args.start) counted)
+    (λ at. (places : List ℕ) → AreCounted c.count_heads.new.marks c.args.page places → lowest (filter (leaves c.args.mask c.args.area.now c.args.page) (flat_map (chain c.args.mask c.args.area.now (c.args.page + 0xFF8) 1024) places)) ≡ Some at)
+    (λ at. lowest (page_leaving c.args.mask c.args.extras.now c.args.area.now c.args.page c.args.start) ≡ Some at) c.sift.ensures.leaves
+    (λ at tells. ap lowest (leaving-words c.args.mask c.count_heads.new.marks c.args.extras.now c.args.area.now c.args.page c.args.start counted) ∙ tells (heads c.args.extras.now c.args.page c.args.start) counted)
 
 pub returns-clause-counted : goal.returns-clause-counted
 unfolding page_reached

@@ -1,7 +1,7 @@
 -- The extras are kept or not, one by one.
 use Rattle.std.proofs.Common.{◌≡◌, ◌∙◌, ◌++◌, ◌∷◌, [], List, ℕ, sym, ap, subst, rules, length, drop, get_or, vec_len, arith}
 use Rattle.std.specs.Prelude.{nat_lt, ◌≤◌, if◌then◌else◌}
-use Rattle.slide_chain.specs.Thinning.{kept_extras}
+use Rattle.slide_chain.specs.Steps.Thinning.{kept_extras}
 use Rattle.slide_chain.proofs.ThinLaws.{keeping-none, keeping-more, keeping-all}
 use Rattle.slide_chain.proofs.thinning.keep_others.Goals as goal
 

@@ -1,6 +1,6 @@
 -- Each start is moved by itself.
 use Rattle.std.proofs.Common.{◌≡◌, ◌∙◌, List, Bool, length, sym, ap, subst}
-use Rattle.slide_chain.specs.Thinning.{Repeats}
+use Rattle.slide_chain.specs.Steps.Thinning.{Repeats}
 use Rattle.slide_chain.proofs.ThinLaws.{moved-same}
 use Rattle.slide_chain.proofs.thinning.thin.Goals as goal
 

@@ -4,7 +4,8 @@ use Rattle.std.specs.Prelude.{nat_lt, filter}
 use Rattle.std.proofs.lemmas.List.{take_rest}
 use Rattle.dsc_base.specs.Numbers.{number_at}
 use Rattle.dsc_base.specs.Edits.{change_all}
-use Rattle.slide_chain.specs.Chains.{AreApart, delta_of, moving}
+use Rattle.slide_chain.specs.Chains.{delta_of, moving}
+use Rattle.slide_chain.specs.Steps.Apart.{AreApart}
 use Rattle.slide_chain.proofs.MarkLaws.{many-heads}
 use Rattle.slide_chain.proofs.SlideLaws.{PageStays, page-stays, none-reached, single-reached, single-inside, many-reached}
 use Rattle.slide_chain.proofs.unsliding.unslide_page.Goals as goal

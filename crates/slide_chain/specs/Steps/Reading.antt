@@ -4,13 +4,13 @@ use Rattle.std.specs.List.{list_any}
 use Rattle.slide_chain.specs.declared.reading.Walk.{Walk}
 use Rattle.slide_chain.specs.declared.reading.Walk.TheVariants.{Sound, Leaves, Overlaps}
 use Rattle.slide_chain.specs.declared.words.ChainWord.{ChainWord}
-use Rattle.slide_chain.specs.Chains.{Slide, heads, reached, leaving, overlapping, least, chain_words}
+use Rattle.slide_chain.specs.Chains.{Slide, heads, reached, leaving, overlapping, lowest, chain_words}
 
 -- the words that were gathered where nothing is wrong, or the least place where a chain leaves its page or words overlap
 abbrev pub WalkIs : Slide → List ℕ → List ChainWord → Walk → Type 0
 WalkIs s area words Sound = (leaving s area ≡ []) × (overlapping (reached s area) ≡ []) × (words ≡ chain_words s area)
-WalkIs s area words (Leaves at) = least (leaving s area) ≡ Some at
-WalkIs s area words (Overlaps at) = least (overlapping (reached s area)) ≡ Some at
+WalkIs s area words (Leaves at) = lowest (leaving s area) ≡ Some at
+WalkIs s area words (Overlaps at) = lowest (overlapping (reached s area)) ≡ Some at
 
 -- two lists with the same places: each test finds one in both or in neither
 abbrev pub SamePlaces : List ℕ → List ℕ → Type 0

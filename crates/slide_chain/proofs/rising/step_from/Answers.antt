@@ -1,7 +1,7 @@
 -- The words rise, and what stands behind a word begins with the next one.
 use Rattle.std.proofs.Common.{◌+◌, ◌∙◌, sym, get_or, arith}
 use Rattle.slide_chain.proofs.ListLaws.{next-at, step_to-at, step_to-past}
-use Rattle.slide_chain.proofs.writing.step_from.Goals as goal
+use Rattle.slide_chain.proofs.rising.step_from.Goals as goal
 
 pub step_between-requires : goal.step_between-requires
 step_between-requires c = omega (arith, next-at c.args.words.now c.args.i c.if-i-words.true c.requires.rises)
