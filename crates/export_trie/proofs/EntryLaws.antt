@@ -1,16 +1,16 @@
 -- The one node of a name in an accepted trie, and its entry in the list of exports.
-use Rattle.std.proofs.Common.{◌≡◌, ◌<◌, ℕ, zero, suc, List, [], ◌∷◌, ◌++◌, drop, length, map, refl, sym, ap, subst, ◌∙◌, arith, inl, inr, false, append_assoc, length-append}
-use Rattle.std.specs.Prelude.{Result, Ok, Err, Option, Some, None, nat_eq, nat_lt}
+use Rattle.std.proofs.Common.{◌≡◌, ◌<◌, ℕ, List, [], ◌∷◌, ◌++◌, drop, length, refl, sym, ap, subst, ◌∙◌, arith, inl, inr, false, append_assoc, length-append}
+use Rattle.std.specs.Prelude.{Ok, Err, Option, Some, None, nat_eq, nat_lt}
 use Rattle.std.specs.Cmp.Lexicographic.{pointwise, bytes_decides}
 use Rattle.std.proofs.lemmas.Bool.{cond-true, cond-false, cases_Bool, cases_lt}
 use Rattle.std.proofs.lemmas.List.{append-nil, nil_from_length, drop_all}
-use Rattle.dsc_base.specs.declared.rule.Rule.{Rule}
+use Rattle.dsc_base.specs.Limits.{name_limit}
 use Rattle.dsc_base.specs.declared.rule.Rule.TheVariants.{TrieBadUleb}
 use Rattle.dsc_base.specs.Uleb.{uleb_at}
 use Rattle.export_trie.specs.declared.export.Export.{Export}
 use Rattle.export_trie.specs.declared.export.Target.{Target}
 use Rattle.export_trie.specs.Nodes.{Terminal, Child, among, number_at, head_at, node_at, terminal_of, children_of}
-use Rattle.export_trie.specs.Order.{Visit, visited, exported, export_of, too_many, opened, entered, below, after, break_from, starts, trie_break}
+use Rattle.export_trie.specs.Order.{Visit, visited, exported, export_of, too_many, opened, entered, trie_break}
 use Rattle.export_trie.specs.Paths.{Member, Spells, Root, Edge, AreExports}
 use Rattle.export_trie.specs.Reading.{Reaches, Start, Next}
 use Rattle.export_trie.specs.Finding.{target_named, IsTargetOf, Follows, target_of}
@@ -20,27 +20,7 @@ use Rattle.export_trie.proofs.PathLaws.{children_of-apart, complete}
 use Rattle.export_trie.proofs.NameLaws.{Leads, Here, Along, leads, one_node, same_child, no_empty}
 use Rattle.export_trie.proofs.ListLaws.{nothing}
 use Rattle.export_trie.proofs.FindLaws.{some-value}
-
--- an accepted trie has a whole walk
-pub record HasWalk (trie : List ℕ) : Type 0 where
-  pub made : List Visit
-  pub reached : Reaches trie made []
-
-walk_from : (left : ℕ) (trie : List ℕ) (made coming : List Visit) → Reaches trie made coming → break_from left trie made coming ≡ None → HasWalk trie
-unfolding break_from
-walk_from zero trie made [] reached none = record { made = made; reached = reached }
-walk_from zero trie made (visit ∷ coming) reached none = absurd (cc)
-walk_from (suc left) trie made [] reached none = record { made = made; reached = reached }
-walk_from (suc left) trie made (visit ∷ coming) reached none =
-    go (λ children ok rest. walk_from left trie (visit ∷ made) (map (below visit.0) children ++ coming) (Next children reached ok) rest) (entered trie made visit) refl none
-  where
-    go : ((children : List Child) → entered trie made visit ≡ Ok children → break_from left trie (visit ∷ made) (map (below visit.0) children ++ coming) ≡ None → HasWalk trie) → (r : Result (List Child) Rule) → entered trie made visit ≡ r → after visit r (λ (cs : List Child). break_from left trie (visit ∷ made) (map (below visit.0) cs ++ coming)) ≡ None → HasWalk trie
-    go next (Err rule) is rest = absurd (cc)
-    go next (Ok children) is rest = next children is rest
-
-pub accepted_walk : (trie : List ℕ) → trie_break trie ≡ None → HasWalk trie
-unfolding trie_break
-accepted_walk trie none = walk_from (length trie) trie [] (starts trie) Start none
+use Rattle.export_trie.proofs.TreeLaws.{accepted_walk}
 
 -- each of its nodes is read
 pub record IsRead (trie : List ℕ) (offset : ℕ) : Type 0 where
@@ -63,7 +43,7 @@ entered_node : (trie : List ℕ) (made : List Visit) (visit : Visit) (children :
 unfolding entered opened
 entered_node trie made visit children ok =
     let new = guard_ok (among visit.1 (visited made)) _ _ children ok in
-    let short = guard_ok (nat_lt 16384 (length visit.0)) _ _ children new.1 in
+    let short = guard_ok (nat_lt name_limit (length visit.0)) _ _ children new.1 in
     let head = bind_ok (head_at (drop visit.1 trie)) _ children short.1 in
     let few = guard_ok (too_many (exported trie made ++ export_of visit.0 head.0.0)) _ _ children head.1.1 in
     read_node trie visit.1 head.0.0 children (node_at-parts trie visit.1 head.0.0 head.0.1 children head.1.0 few.1)

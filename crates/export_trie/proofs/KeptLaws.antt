@@ -9,6 +9,7 @@ use Rattle.dsc_base.specs.declared.rule.Rule.{Rule}
 use Rattle.dsc_base.specs.declared.rule.Rule.TheVariants.{TrieBadNode}
 use Rattle.dsc_base.specs.Uleb.{uleb_at}
 use Rattle.dsc_base.proofs.UlebLaws.{uleb_at-fits}
+use Rattle.dsc_base.specs.Limits.{name_limit, record_limit, export_names_limit}
 use Rattle.export_trie.specs.declared.export.Export.{Export}
 use Rattle.export_trie.specs.declared.export.Target.{Target}
 use Rattle.export_trie.specs.declared.export.Target.TheVariants.{Offset, Absolute, Reexport}
@@ -16,7 +17,8 @@ use Rattle.export_trie.specs.Nodes.{◌>>=◌, Terminal, Child, among, first_of,
 use Rattle.export_trie.specs.Order.{Visit, visited, names_len, too_many, entered}
 use Rattle.export_trie.specs.Paths.{Member, Spells, Root, Edge, AreExports}
 use Rattle.export_trie.specs.Reading.{Reaches, Start, Next, IsWalked}
-use Rattle.export_trie.specs.Writing.{HasNoZero, FitsFlags, HasNumber, HaveNumbers, IsWritable, IsWritableExport}
+use Rattle.export_trie.specs.Writing.{HasNoZero, FitsFlags, IsWritable, IsWritableExport}
+use Rattle.export_trie.specs.Planning.{HasNumber}
 use Rattle.export_trie.proofs.NodeLaws.{ok-value, bind_ok, guard_ok, pair-parts, child_at-parts, IsChild}
 use Rattle.export_trie.proofs.PathLaws.{spelled}
 use Rattle.export_trie.proofs.ListLaws.{exported-Member, Member-permutation}
@@ -64,10 +66,10 @@ target_at-kept flags bytes target rest read =
     elim (cases_Bool (is_reexport flags)) [
       | inl renamed ↦
           let text = bind_ok (text_at number.0.1) (named number.0.0) (target, rest) (sym (cond-true (is_reexport flags) (text_at number.0.1 >>= named number.0.0) (Ok (value_of flags number.0.0, number.0.1)) renamed) ∙ number.1.1) in
-          let short = guard_ok (nat_lt 16384 (length text.0.0)) TrieBadNode (Ok (Reexport number.0.0 text.0.0, text.0.1)) (target, rest) text.1.1 in
+          let short = guard_ok (nat_lt name_limit (length text.0.0)) TrieBadNode (Ok (Reexport number.0.0 text.0.0, text.0.1)) (target, rest) text.1.1 in
           let e = pair-parts (Reexport number.0.0 text.0.0) target text.0.1 rest (ok-value (Reexport number.0.0 text.0.0, text.0.1) (target, rest) short.1) in
           subst (λ (t : Target). FitsFlags flags t × HasNumber t) e.0
-          ((renamed, text_at-plain number.0.1 text.0.0 text.0.1 text.1.0, ltb-false 16384 (length text.0.0) short.0), small)
+          ((renamed, text_at-plain number.0.1 text.0.0 text.0.1 text.1.0, ltb-false name_limit (length text.0.0) short.0), small)
       | inr own ↦
           let e = pair-parts (value_of flags number.0.0) target number.0.1 rest
           (ok-value (value_of flags number.0.0, number.0.1) (target, rest) (sym (cond-false (is_reexport flags) (text_at number.0.1 >>= named number.0.0) (Ok (value_of flags number.0.0, number.0.1)) own) ∙ number.1.1)) in
@@ -75,7 +77,7 @@ target_at-kept flags bytes target rest read =
     ]
   where
     named : ℕ → List ℕ × List ℕ → Result (Target × List ℕ) Rule
-    named ordinal t = if nat_lt 16384 (length t.0) then Err TrieBadNode else Ok (Reexport ordinal t.0, t.1)
+    named ordinal t = if nat_lt name_limit (length t.0) then Err TrieBadNode else Ok (Reexport ordinal t.0, t.1)
 
     kind : (value : ℕ) → is_reexport flags ≡ false → value < 2 ^ 64 → FitsFlags flags (value_of flags value) × HasNumber (value_of flags value)
     kind value own small =
@@ -175,42 +177,40 @@ Spells-plain trie Root = tt
 Spells-plain trie (Edge {name = name} {offset = offset} edge end path member) =
     HasNoZero-append name edge (Spells-plain trie path) (children_of-plain trie offset (edge, end) member)
 
-entered-short : (trie : List ℕ) (made : List Visit) (visit : Visit) (children : List Child) → entered trie made visit ≡ Ok children → length visit.0 ≤ 16384
+entered-short : (trie : List ℕ) (made : List Visit) (visit : Visit) (children : List Child) → entered trie made visit ≡ Ok children → length visit.0 ≤ name_limit
 unfolding entered
 entered-short trie made visit children ok =
     let new = guard_ok (among visit.1 (visited made)) _ _ children ok in
-    let short = guard_ok (nat_lt 16384 (length visit.0)) _ _ children new.1 in
-    ltb-false 16384 (length visit.0) short.0
+    let short = guard_ok (nat_lt name_limit (length visit.0)) _ _ children new.1 in
+    ltb-false name_limit (length visit.0) short.0
 
-visits-short : (trie : List ℕ) {made coming : List Visit} → Reaches trie made coming → (visit : Visit) → Member visit made → length visit.0 ≤ 16384
+visits-short : (trie : List ℕ) {made coming : List Visit} → Reaches trie made coming → (visit : Visit) → Member visit made → length visit.0 ≤ name_limit
 visits-short trie Start visit member = absurd member
 visits-short trie (Next {made = made} {visit = here} {coming = rest} children before ok) visit (inl is) =
-    subst (λ (v : Visit). length v.0 ≤ 16384) (sym is) (entered-short trie made here children ok)
+    subst (λ (v : Visit). length v.0 ≤ name_limit) (sym is) (entered-short trie made here children ok)
 visits-short trie (Next {made = made} {visit = here} {coming = rest} children before ok) visit (inr member) = visits-short trie before visit member
 
 -- the limits don't depend on the order
 few-moved : (xs ys : List Export) → IsPermutation xs ys → too_many xs ≡ false → too_many ys ≡ false
 unfolding too_many
 few-moved xs ys moved few =
-    let parts = or_parts (nat_lt 1048576 (length xs)) (nat_lt 134217728 (sum_by names_len xs)) few in
-    or_from (nat_lt 1048576 (length ys)) (nat_lt 134217728 (sum_by names_len ys))
-    (le-ltb 1048576 (length ys) (omega (arith, ltb-false 1048576 (length xs) parts.0, length_permutation xs ys moved)))
-    (le-ltb 134217728 (sum_by names_len ys) (omega (arith, ltb-false 134217728 (sum_by names_len xs) parts.1, sum_by-IsPermutation names_len xs ys moved)))
+    let parts = or_parts (nat_lt record_limit (length xs)) (nat_lt export_names_limit (sum_by names_len xs)) few in
+    or_from (nat_lt record_limit (length ys)) (nat_lt export_names_limit (sum_by names_len ys))
+    (le-ltb record_limit (length ys) (omega (arith, ltb-false record_limit (length xs) parts.0, length_permutation xs ys moved)))
+    (le-ltb export_names_limit (sum_by names_len ys) (omega (arith, ltb-false export_names_limit (sum_by names_len xs) parts.1, sum_by-IsPermutation names_len xs ys moved)))
 
-pub kept_list : (trie : List ℕ) (walked exports : List Export) → IsWalked trie walked → IsPermutation walked exports → AreExports trie exports → IsWritable exports × HaveNumbers exports
-kept_list trie walked exports all moved list = (record { rises = list.rises; each = λ e member. (its e member).0; few = few-moved walked exports moved all.few }, λ e member. (its e member).1)
+pub kept_list : (trie : List ℕ) (walked exports : List Export) → IsWalked trie walked → IsPermutation walked exports → AreExports trie exports → IsWritable exports
+kept_list trie walked exports all moved list = record { rises = list.rises; each = its; few = few-moved walked exports moved all.few }
   where
-    its : (e : Export) → Member e exports → IsWritableExport e × HasNumber e.target
+    its : (e : Export) → Member e exports → IsWritableExport e
     its e member =
         let before = Member-permutation e exports walked (IsPermutation-sym walked exports moved) member in
         let at = exported-Member trie all.made e (subst (λ (l : List Export). Member e l) all.listed before) in
-        let kept : IfKept (Some (e.flags, e.target)) = subst IfKept at.terminal (terminal_of-kept trie at.node) in (
-          record {
-            short = visits-short trie all.reached (e.name, at.node) at.visit;
-            plain = Spells-plain trie (spelled trie all.reached (e.name, at.node) (inl at.visit));
-            known = kept.known;
-            no_resolver = kept.no_resolver;
-            fits = kept.fits;
-          },
-          kept.number,
-        )
+        let kept : IfKept (Some (e.flags, e.target)) = subst IfKept at.terminal (terminal_of-kept trie at.node) in
+        record {
+          short = visits-short trie all.reached (e.name, at.node) at.visit;
+          plain = Spells-plain trie (spelled trie all.reached (e.name, at.node) (inl at.visit));
+          known = kept.known;
+          no_resolver = kept.no_resolver;
+          fits = kept.fits;
+        }

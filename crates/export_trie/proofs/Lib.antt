@@ -1,12 +1,16 @@
+pub mod BreakLaws
 pub mod ChildLaws
 pub mod EdgeLaws
 pub mod EntryLaws
+pub mod ExportLaws
 pub mod FillLaws
 pub mod FindLaws
 pub mod GroupLaws
+pub mod IndexLaws
 pub mod KeptLaws
 pub mod ListLaws
 pub mod ListingLaws
+pub mod MeasureLaws
 pub mod NameLaws
 pub mod NodeLaws
 pub mod PathLaws
@@ -16,4 +20,5 @@ pub mod ReadLaws
 pub mod RoundLaws
 pub mod SizeLaws
 pub mod SpellLaws
+pub mod TreeLaws
 pub mod WriteLaws

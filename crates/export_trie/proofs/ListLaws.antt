@@ -123,7 +123,7 @@ named_two name (export ∷ exports) (suc k) d inside here next =
     omega (arith, sum_by-cons (named name) export exports, named_two name exports k d (omega arith) here next)
 
 -- members by place
-Member-Contains : (x : Export) (xs : List Export) → Member x xs → Contains xs x
+pub Member-Contains : (x : Export) (xs : List Export) → Member x xs → Contains xs x
 Member-Contains x [] member = absurd member
 Member-Contains x (y ∷ xs) (inl is) = (0, omega arith, sym is)
 Member-Contains x (y ∷ xs) (inr member) = let at = Member-Contains x xs member in (suc at.0, omega (arith, at.1), at.2)

@@ -8,8 +8,8 @@ use Rattle.export_trie.specs.declared.export.Export.{Export}
 use Rattle.export_trie.specs.Nodes.{Terminal, first_of}
 use Rattle.export_trie.specs.Order.{export_of}
 use Rattle.export_trie.specs.Paths.{Member}
-use Rattle.export_trie.specs.Writing.{Forest, Bare, Branch, goes_with, same_edge, other_edges, shared_len, own_terminal, going_on, HasNoZero, HasNumber, IsWritableExport}
-use Rattle.export_trie.specs.Planning.{IsReady, grown}
+use Rattle.export_trie.specs.Writing.{Forest, Bare, Branch, goes_with, same_edge, other_edges, shared_len, own_terminal, going_on, HasNoZero, IsWritableExport}
+use Rattle.export_trie.specs.Planning.{IsReady, grown, HasNumber}
 use Rattle.export_trie.proofs.GroupLaws.{deeper, within, group-front, ready_below, ready_next, rest-Member}
 use Rattle.export_trie.proofs.PlanLaws.{grown-none, grown-some, left, left-next, left-below}
 use Rattle.export_trie.proofs.EdgeLaws.{later-byte, no_zero}

@@ -3,6 +3,7 @@ use Rattle.std.proofs.Common.{◌≡◌, ◌<◌, ◌⊎◌, ℕ, zero, suc, Lis
 use Rattle.std.specs.Prelude.{Result, Ok, Err, Option, nat_eq, nat_lt}
 use Rattle.std.proofs.lemmas.Bool.{eq-eqb, false≢true, or_parts, or_left, or_right}
 use Rattle.dsc_base.specs.declared.rule.Rule.{Rule}
+use Rattle.dsc_base.specs.Limits.{name_limit}
 use Rattle.export_trie.specs.Nodes.{Terminal, Child, among, first_of, head_at, child_at, children_at, edges_at, node_at, children_of, children_in}
 use Rattle.export_trie.specs.Order.{Visit, visited, exported, export_of, too_many, opened, entered, below, starts}
 use Rattle.export_trie.specs.Paths.{Member, Spells, Root, Edge}
@@ -107,7 +108,7 @@ pub entered-children : (trie : List ℕ) (made : List Visit) (visit : Visit) (ch
 unfolding entered opened
 entered-children trie made visit children ok =
     let new = guard_ok (among visit.1 (visited made)) _ _ children ok in
-    let short = guard_ok (nat_lt 16384 (length visit.0)) _ _ children new.1 in
+    let short = guard_ok (nat_lt name_limit (length visit.0)) _ _ children new.1 in
     let head = bind_ok (head_at (drop visit.1 trie)) _ children short.1 in
     let few = guard_ok (too_many (exported trie made ++ export_of visit.0 head.0.0)) _ _ children head.1.1 in
     children_of-node trie visit.1 (head.0.0, children) (node_at-parts trie visit.1 head.0.0 head.0.1 children head.1.0 few.1)

@@ -4,15 +4,17 @@ use Rattle.std.specs.Prelude.{Result, Ok, Err, Option, Some, None, nat_lt, not, 
 use Rattle.std.proofs.lemmas.Bool.{cond-true, cond-false, lt-ltb, le-ltb}
 use Rattle.std.proofs.lemmas.List.{take_all, take-append-le, length-take-le, get_or-replicate, length-replicate}
 use Rattle.std.proofs.lemmas.List.Sums.{sum_by-set, sum_by-cons}
+use Rattle.dsc_base.specs.Limits.{name_limit}
 use Rattle.dsc_base.specs.declared.rule.Rule.{Rule}
 use Rattle.dsc_base.specs.declared.rule.Rule.TheVariants.{TrieNodeTwice, TrieBadNode, TrieTooManyNames}
-use Rattle.dsc_base.specs.declared.fault.Site.{Site}
 use Rattle.export_trie.specs.declared.export.Export.{Export}
 use Rattle.export_trie.specs.declared.node.ReadFault.{ReadFault}
 use Rattle.export_trie.specs.declared.node.ReadFault.TheVariants as read_faults
 use Rattle.export_trie.specs.Nodes.{Terminal, Child, among, first_of, head_at, child_at, children_at, edges_at, node_at, terminal_of, children_of}
-use Rattle.export_trie.specs.Order.{Visit, visited, exported, export_of, too_many, opened, entered, below, after, break_from, starts, trie_break}
-use Rattle.export_trie.specs.Reading.{Marks, Pend, pend, visit_of, works, Gives, Reaches, Start, Next, Nested, Inside, Stands, IsEntered, Enters, IsKept, IsOpened, Opens, IsBreakOf, IsWalked, fault_at}
+use Rattle.export_trie.specs.Order.{Visit, visited, exported, export_of, too_many, opened, entered, below, starts, trie_break}
+use Rattle.export_trie.specs.Reading.{Marks, Pend, pend, visit_of, works, Gives, Reaches, Start, Next, Nested, Inside, Stands, IsEntered, Enters, IsKept, IsOpened, Opens, IsWalked, fault_at}
+use Rattle.dsc_base.specs.Refusals.{IsRefusal}
+use Rattle.export_trie.proofs.BreakLaws.{trie_break-at, trie_break-none}
 use Rattle.export_trie.proofs.ChildLaws.{Marks-set}
 use Rattle.export_trie.proofs.NodeLaws.{ok-value, bind_ok, guard_ok, pair-parts, child_at-parts}
 
@@ -71,44 +73,21 @@ opens_read trie visit exports exports' size' coming coming' terminal rest r head
     go (Err (read_faults.Broken rule)) edges is gives = opened_is ∙ (is ∙ gives)
 
 -- a node is entered where it was not reached before and its name is not too long
-pub entered-new : (trie : List ℕ) (made : List Visit) (visit : Visit) → among visit.1 (visited made) ≡ false → length visit.0 ≤ 16384 → entered trie made visit ≡ opened trie (exported trie made) visit
+pub entered-new : (trie : List ℕ) (made : List Visit) (visit : Visit) → among visit.1 (visited made) ≡ false → length visit.0 ≤ name_limit → entered trie made visit ≡ opened trie (exported trie made) visit
 unfolding entered
 entered-new trie made visit new short =
     cond-false (among visit.1 (visited made)) (Err TrieNodeTwice) _ new
-    ∙ cond-false (nat_lt 16384 (length visit.0)) (Err TrieBadNode) _ (le-ltb 16384 (length visit.0) short)
+    ∙ cond-false (nat_lt name_limit (length visit.0)) (Err TrieBadNode) _ (le-ltb name_limit (length visit.0) short)
 
 pub entered-twice : (trie : List ℕ) (made : List Visit) (visit : Visit) → among visit.1 (visited made) ≡ true → entered trie made visit ≡ Err TrieNodeTwice
 unfolding entered
 entered-twice trie made visit old = cond-true (among visit.1 (visited made)) (Err TrieNodeTwice) _ old
 
-pub entered-long : (trie : List ℕ) (made : List Visit) (visit : Visit) → among visit.1 (visited made) ≡ false → 16384 < length visit.0 → entered trie made visit ≡ Err TrieBadNode
+pub entered-long : (trie : List ℕ) (made : List Visit) (visit : Visit) → among visit.1 (visited made) ≡ false → name_limit < length visit.0 → entered trie made visit ≡ Err TrieBadNode
 unfolding entered
 entered-long trie made visit new long =
     cond-false (among visit.1 (visited made)) (Err TrieNodeTwice) _ new
-    ∙ cond-true (nat_lt 16384 (length visit.0)) (Err TrieBadNode) _ (lt-ltb 16384 (length visit.0) long)
-
--- the first fault is the first one from any moment on
-pub break_from-reached : (trie : List ℕ) {made coming : List Visit} (left : ℕ) → Reaches trie made coming → left + length made ≡ length trie → trie_break trie ≡ break_from left trie made coming
-unfolding trie_break break_from
-break_from-reached trie left Start counted =
-    ap (λ (n : ℕ). break_from n trie [] (starts trie)) (let e : length trie ≡ left = omega arith in e)
-break_from-reached trie left (Next {made = made} {visit = visit} {coming = rest} children before ok) counted =
-    break_from-reached trie (suc left) before (omega arith)
-    ∙ ap (λ (r : Result (List Child) Rule). after visit r (λ (cs : List Child). break_from left trie (visit ∷ made) (map (below visit.0) cs ++ rest))) ok
-
-pub trie_break-at : (trie : List ℕ) (made coming : List Visit) (visit : Visit) (left : ℕ) (rule : Rule) → Reaches trie made (visit ∷ coming) → left + length made ≡ length trie → (left ≡ 0 → rule ≡ TrieNodeTwice) → entered trie made visit ≡ Err rule → trie_break trie ≡ Some (record { rule = rule; at = visit.1 })
-unfolding break_from
-trie_break-at trie made coming visit zero rule reached counted twice fault =
-    break_from-reached trie zero reached counted
-    ∙ ap (λ (r : Rule). let s : Option Site = Some (record { rule = r; at = visit.1 }) in s) (sym (twice refl))
-trie_break-at trie made coming visit (suc left) rule reached counted twice fault =
-    break_from-reached trie (suc left) reached counted
-    ∙ ap (λ (r : Result (List Child) Rule). after visit r (λ (cs : List Child). break_from left trie (visit ∷ made) (map (below visit.0) cs ++ coming))) fault
-
-pub trie_break-none : (trie : List ℕ) (made : List Visit) (left : ℕ) → Reaches trie made [] → left + length made ≡ length trie → trie_break trie ≡ None
-unfolding break_from
-trie_break-none trie made zero reached counted = break_from-reached trie zero reached counted
-trie_break-none trie made (suc left) reached counted = break_from-reached trie (suc left) reached counted
+    ∙ cond-true (nat_lt name_limit (length visit.0)) (Err TrieBadNode) _ (lt-ltb name_limit (length visit.0) long)
 
 -- one more mark is one fewer that is not set
 pub unmarked-set : (marks : List Bool) (i : ℕ) → i < length marks → get_or marks i false ≡ false → count_by not (set marks i true) + 1 ≡ count_by not marks
@@ -238,7 +217,7 @@ stands_more trie marks marks' name name' next coming coming' exports exports' si
         (ap (λ (l : List ℕ). works l coming) into.named ∙ works-same next.prefix name next.edge coming stands.nested.0 stands.nested.1)))
 
 -- a visit with a fault
-pub enter_fault : (trie : List ℕ) (marks : List Bool) (name : List ℕ) (next : Pend) (coming : List Pend) (exports : List Export) (size : ℕ) (rule : Rule) → Stands trie marks name (next ∷ coming) exports size → ((get_or marks next.offset false ≡ true) × (rule ≡ TrieNodeTwice)) ⊎ ((get_or marks next.offset false ≡ false) × (16384 < length (take next.prefix name ++ next.edge)) × (rule ≡ TrieBadNode)) → trie_break trie ≡ Some (record { rule = rule; at = next.offset })
+pub enter_fault : (trie : List ℕ) (marks : List Bool) (name : List ℕ) (next : Pend) (coming : List Pend) (exports : List Export) (size : ℕ) (rule : Rule) → Stands trie marks name (next ∷ coming) exports size → ((get_or marks next.offset false ≡ true) × (rule ≡ TrieNodeTwice)) ⊎ ((get_or marks next.offset false ≡ false) × (name_limit < length (take next.prefix name ++ next.edge)) × (rule ≡ TrieBadNode)) → trie_break trie ≡ Some (record { rule = rule; at = next.offset })
 enter_fault trie marks name next coming exports size rule stands (inl twice) =
     trie_break-at trie stands.made (works name coming) (visit_of name next) (count_by not marks) rule stands.reached (omega (arith, stands.counted)) (λ _. twice.1)
     (entered-twice trie stands.made (visit_of name next) (sym (stands.marked next.offset (omega (arith, stands.inside.0, stands.wide))) ∙ twice.0)
@@ -297,7 +276,7 @@ stands_start trie coming (inr some) =
     root (byte ∷ bytes) some = refl
 
 -- what the parts of a visit say of the whole
-pub enter_broken : (trie : List ℕ) (marks marks' : List Bool) (name name' : List ℕ) (next : Pend) (coming : List Pend) (exports : List Export) (size : ℕ) (fault : ReadFault) → Stands trie marks name (next ∷ coming) exports size → Enters next marks marks' name name' (Err fault) → IsBreakOf (trie_break trie) (fault_at next.offset fault)
+pub enter_broken : (trie : List ℕ) (marks marks' : List Bool) (name name' : List ℕ) (next : Pend) (coming : List Pend) (exports : List Export) (size : ℕ) (fault : ReadFault) → Stands trie marks name (next ∷ coming) exports size → Enters next marks marks' name name' (Err fault) → IsRefusal (trie_break trie) (fault_at next.offset fault)
 enter_broken trie marks marks' name name' next coming exports size read_faults.Memory stands into = tt
 enter_broken trie marks marks' name name' next coming exports size (read_faults.Broken rule) stands into = enter_fault trie marks name next coming exports size rule stands into
 
@@ -306,7 +285,7 @@ open_stands trie marks marks' name name' next coming coming' exports exports' si
     stands_more trie marks marks' name name' next coming coming' exports exports' size size' stands into opens
 open_stands trie marks marks' name name' next coming coming' exports exports' size size' (Err fault) stands into opens = tt
 
-pub open_broken : (trie : List ℕ) (marks marks' : List Bool) (name name' : List ℕ) (next : Pend) (coming coming' : List Pend) (exports exports' : List Export) (size size' : ℕ) (r : Result Unit ReadFault) → Stands trie marks name (next ∷ coming) exports size → IsEntered next marks marks' name name' → Opens trie (name', next.offset) exports exports' size' coming coming' r → IfErr r (λ fault. IsBreakOf (trie_break trie) (fault_at next.offset fault))
+pub open_broken : (trie : List ℕ) (marks marks' : List Bool) (name name' : List ℕ) (next : Pend) (coming coming' : List Pend) (exports exports' : List Export) (size size' : ℕ) (r : Result Unit ReadFault) → Stands trie marks name (next ∷ coming) exports size → IsEntered next marks marks' name name' → Opens trie (name', next.offset) exports exports' size' coming coming' r → IfErr r (λ fault. IsRefusal (trie_break trie) (fault_at next.offset fault))
 open_broken trie marks marks' name name' next coming coming' exports exports' size size' (Ok done) stands into opens = tt
 open_broken trie marks marks' name name' next coming coming' exports exports' size size' (Err read_faults.Memory) stands into opens = tt
 open_broken trie marks marks' name name' next coming coming' exports exports' size size' (Err (read_faults.Broken rule)) stands into opens =

@@ -4,24 +4,26 @@ use Rattle.std.specs.Prelude.{nat_eq, nat_lt, Option, None, Ok, sum_by}
 use Rattle.std.proofs.lemmas.Bool.{cond-true, cond-false, cases_Bool, ne_eqb, or_from, or_parts, ltb-false, le-ltb}
 use Rattle.std.proofs.lemmas.List.{append-nil, drop_at, take_all}
 use Rattle.std.proofs.lemmas.List.Sums.{sum_by-append}
+use Rattle.dsc_base.specs.Limits.{name_limit, record_limit, export_names_limit}
 use Rattle.export_trie.specs.declared.export.Export.{Export}
 use Rattle.export_trie.specs.Nodes.{Terminal, Child, among, first_of, head_at, terminal_of}
-use Rattle.export_trie.specs.Order.{Visit, visited, exported, export_of, names_len, too_many, entered, below, starts, break_from, trie_break}
-use Rattle.export_trie.specs.Writing.{Forest, Bare, Branch, forest, own_terminal, going_on, trie_bytes, IsWritable, HaveNumbers, children_count, node_len, nodes_len, edges_bytes, node_bytes, nodes_bytes, rooted_bytes, terminal_bytes}
+use Rattle.export_trie.specs.Order.{Visit, visited, exported, export_of, names_len, too_many, entered, below, starts, trie_break}
+use Rattle.export_trie.specs.Writing.{Forest, Bare, Branch, forest, own_terminal, going_on, trie_bytes, IsWritable, children_count, node_len, nodes_len, edges_bytes, node_bytes, nodes_bytes, rooted_bytes, terminal_bytes}
 use Rattle.std.specs.declared.cmp.Ordering.TheVariants.{Less}
 use Rattle.std.specs.Ordering.{nat_cmp, is_lt, ordering_reverse}
 use Rattle.std.specs.Cmp.Lexicographic.{slice_cmp, nat_list_cmp_total}
 use Rattle.std.specs.List.Sorted.{IsSortedBy}
 use Rattle.std.proofs.lemmas.List.Sorted.{IsPermutation-refl}
 use Rattle.export_trie.specs.Paths.{Member, AreExports}
-use Rattle.export_trie.specs.Planning.{Rising, bytes_of_names, grown}
+use Rattle.export_trie.specs.Planning.{Rising, bytes_of_names, grown, HaveNumbers}
 use Rattle.export_trie.proofs.PrefixLaws.{front_first}
 use Rattle.export_trie.proofs.ListLaws.{comes_before, sorted_exports}
 use Rattle.export_trie.proofs.PlanLaws.{left}
 use Rattle.export_trie.proofs.EdgeLaws.{no_zero}
 use Rattle.export_trie.proofs.WriteLaws.{writable-held, root-grown, rising_from}
 use Rattle.export_trie.specs.Reading.{Reaches, Start, Next, IsWalked}
-use Rattle.export_trie.proofs.ReadLaws.{opened-head, entered-new, node_at-parts, terminal_of-node, trie_break-none}
+use Rattle.export_trie.proofs.ReadLaws.{opened-head, entered-new, node_at-parts, terminal_of-node}
+use Rattle.export_trie.proofs.BreakLaws.{trie_break-none}
 use Rattle.export_trie.proofs.SizeLaws.{length-node, length-nodes, length-rooted, trie_small}
 use Rattle.export_trie.proofs.SpellLaws.{IsSpellable, IsSound, listed, head_back, edges_back}
 use Rattle.export_trie.proofs.ListingLaws.{listing, listing-grown, own_first, own-spellable, IsSpelledExport, sound-grown}
@@ -62,10 +64,10 @@ placed-within whole at piece placed =
 few-front : (front rest : List Export) → too_many (front ++ rest) ≡ false → too_many front ≡ false
 unfolding too_many
 few-front front rest few =
-    let parts = or_parts (nat_lt 1048576 (length (front ++ rest))) (nat_lt 134217728 (sum_by names_len (front ++ rest))) few in
-    or_from (nat_lt 1048576 (length front)) (nat_lt 134217728 (sum_by names_len front))
-    (le-ltb 1048576 (length front) (omega (arith, ltb-false 1048576 (length (front ++ rest)) parts.0, length-append front rest)))
-    (le-ltb 134217728 (sum_by names_len front) (omega (arith, ltb-false 134217728 (sum_by names_len (front ++ rest)) parts.1, sum_by-append names_len front rest)))
+    let parts = or_parts (nat_lt record_limit (length (front ++ rest))) (nat_lt export_names_limit (sum_by names_len (front ++ rest))) few in
+    or_from (nat_lt record_limit (length front)) (nat_lt export_names_limit (sum_by names_len front))
+    (le-ltb record_limit (length front) (omega (arith, ltb-false record_limit (length (front ++ rest)) parts.0, length-append front rest)))
+    (le-ltb export_names_limit (sum_by names_len front) (omega (arith, ltb-false export_names_limit (sum_by names_len (front ++ rest)) parts.1, sum_by-append names_len front rest)))
 
 -- all nodes so far stand before this place
 abbrev pub AreBefore : ℕ → List Visit → Type 0
@@ -86,7 +88,7 @@ pub record IsVisited (whole : List ℕ) (made : List Visit) (visit : Visit) (ter
   pub ok : entered whole made visit ≡ Ok children
   pub ends : terminal_of whole visit.1 ≡ terminal
 
-node-visited : (whole : List ℕ) (made : List Visit) (name : List ℕ) (at depth : ℕ) (terminal : Option Terminal) (f : Forest) → IsPlaced whole at (node_bytes (at + node_len terminal f) terminal f) → at + node_len terminal f + nodes_len f ≤ length whole → length whole < 2 ^ 28 → IsSpellable terminal → IsSound 0 depth f → AreBefore at made → length name ≤ 16384 → too_many (exported whole made ++ export_of name terminal) ≡ false → IsVisited whole made (name, at) terminal (listed (at + node_len terminal f) f)
+node-visited : (whole : List ℕ) (made : List Visit) (name : List ℕ) (at depth : ℕ) (terminal : Option Terminal) (f : Forest) → IsPlaced whole at (node_bytes (at + node_len terminal f) terminal f) → at + node_len terminal f + nodes_len f ≤ length whole → length whole < 2 ^ 28 → IsSpellable terminal → IsSound 0 depth f → AreBefore at made → length name ≤ name_limit → too_many (exported whole made ++ export_of name terminal) ≡ false → IsVisited whole made (name, at) terminal (listed (at + node_len terminal f) f)
 node-visited whole made name at depth terminal f placed inside small fits sound before short few =
     let edges : List ℕ = children_count f ∷ edges_bytes (at + node_len terminal f) f in
     let head : head_at (drop at whole) ≡ Ok (terminal, edges ++ placed.after) =
@@ -239,7 +241,7 @@ going_root-Member first exports e member =
     ]
 
 pub written-back : (exports : List Export) → IsWritable exports → HaveNumbers exports → IsReadBack (trie_bytes exports) exports
-unfolding trie_bytes exported trie_break break_from
+unfolding trie_bytes exported trie_break
 written-back [] writable numbers = record { walked = record { made = []; reached = Start; listed = refl; few = writable.few }; accepted = refl }
 written-back (first ∷ exports) writable numbers =
     let held = writable-held first exports writable in

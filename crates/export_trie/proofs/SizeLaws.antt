@@ -8,6 +8,7 @@ use Rattle.std.proofs.lemmas.List.{length-take-le, take_all, take-append-drop}
 use Rattle.std.proofs.lemmas.List.Sums.{sum_by-append, sum_by-cons}
 use Rattle.dsc_base.specs.Uleb.{uleb_bytes, uleb4_bytes}
 use Rattle.dsc_base.proofs.UlebLaws.{length-uleb_bytes, length-uleb_bytes_ten, uleb_bytes-one}
+use Rattle.dsc_base.specs.Limits.{name_limit, record_limit, export_names_limit}
 use Rattle.export_trie.specs.declared.export.Export.{Export}
 use Rattle.export_trie.specs.declared.export.Target.{Target}
 use Rattle.export_trie.specs.declared.export.Target.TheVariants.{Offset, Absolute, Reexport}
@@ -48,7 +49,7 @@ length-rooted t below =
 -- a terminal has no more than 15 bytes besides a name
 pub record IsLight (export : Export) : Type 0 where
   pub flags : export.flags < 32
-  pub renamed : renamed_len export.target ≤ 16384
+  pub renamed : renamed_len export.target ≤ name_limit
 
 pub known-flags : (flags : ℕ) → are_bad_flags flags ≡ false → flags < 32
 known-flags flags known = leb-false 32 flags (or_parts (nat_le 32 flags) _ known).0
@@ -63,7 +64,7 @@ length-target (Absolute value) = omega (arith, length-uleb_bytes_ten value)
 length-target (Reexport ordinal name) =
     omega (arith, length-append (uleb_bytes ordinal) (name ++ 0 ∷ []), length-append name (0 ∷ []), length-uleb_bytes_ten ordinal)
 
-length-terminal : (flags : ℕ) (target : Target) → flags < 32 → renamed_len target ≤ 16384 → length (terminal_bytes (Some (flags, target))) ≤ 15 + renamed_len target
+length-terminal : (flags : ℕ) (target : Target) → flags < 32 → renamed_len target ≤ name_limit → length (terminal_bytes (Some (flags, target))) ≤ 15 + renamed_len target
 unfolding terminal_bytes
 length-terminal flags target few short =
     let body = uleb_bytes flags ++ target_bytes target in
@@ -223,11 +224,11 @@ names_all [] = omega arith
 names_all (e ∷ exports) =
     omega (arith, names_all exports, sum_by-cons names_len e exports, sum_by-cons (λ (x : Export). length x.name) e exports, sum_by-cons (λ (x : Export). renamed_len x.target) e exports)
 
-limits : (exports : List Export) → too_many exports ≡ false → (length exports ≤ 1048576) × (sum_by names_len exports ≤ 134217728)
+limits : (exports : List Export) → too_many exports ≡ false → (length exports ≤ record_limit) × (sum_by names_len exports ≤ export_names_limit)
 unfolding too_many
 limits exports few =
-    let parts = or_parts (nat_lt 1048576 (length exports)) (nat_lt 134217728 (sum_by names_len exports)) few in
-    (ltb-false 1048576 (length exports) parts.0, ltb-false 134217728 (sum_by names_len exports) parts.1)
+    let parts = or_parts (nat_lt record_limit (length exports)) (nat_lt export_names_limit (sum_by names_len exports)) few in
+    (ltb-false record_limit (length exports) parts.0, ltb-false export_names_limit (sum_by names_len exports) parts.1)
 
 pub trie_small : (exports : List Export) → IsWritable exports → length (trie_bytes exports) < 2 ^ 28
 unfolding trie_bytes
@@ -237,7 +238,7 @@ trie_small (first ∷ exports) writable =
     let ready = (held.ready first exports refl).0 in
     go (cases_Bool (nat_eq (length first.name) 0)) ready
   where
-    few : (length (first ∷ exports) ≤ 1048576) × (sum_by names_len (first ∷ exports) ≤ 134217728)
+    few : (length (first ∷ exports) ≤ record_limit) × (sum_by names_len (first ∷ exports) ≤ export_names_limit)
     few = limits (first ∷ exports) writable.few
 
     all : sum_by names_len (first ∷ exports) ≡ bytes_of_names (first ∷ exports) + renamed_all (first ∷ exports)

@@ -7,10 +7,12 @@ use Rattle.dsc_base.specs.declared.rule.Rule.{Rule}
 use Rattle.dsc_base.specs.declared.rule.Rule.TheVariants.{TrieEnded, TrieSiblingsClash, TrieBadFlags, TrieResolver, TrieBadNode}
 use Rattle.dsc_base.specs.Uleb.{uleb_at, uleb_bytes, uleb4_bytes}
 use Rattle.dsc_base.proofs.UlebLaws.{uleb_read_back, uleb4_read_back, uleb_bytes-one}
+use Rattle.dsc_base.specs.Limits.{name_limit}
 use Rattle.export_trie.specs.declared.export.Target.{Target}
 use Rattle.export_trie.specs.declared.export.Target.TheVariants.{Offset, Absolute, Reexport}
 use Rattle.export_trie.specs.Nodes.{◌>>=◌, Terminal, Child, among, first_of, kind_of, is_reexport, is_resolver, are_bad_flags, value_of, number_in, number_at, text_at, target_at, terminal_at, head_at, child_at, children_at, edges_at}
-use Rattle.export_trie.specs.Writing.{Forest, Bare, Branch, children_count, node_len, nodes_len, edges_bytes, target_bytes, terminal_bytes, HasNoZero, FitsFlags, HasNumber}
+use Rattle.export_trie.specs.Writing.{Forest, Bare, Branch, children_count, node_len, nodes_len, edges_bytes, target_bytes, terminal_bytes, HasNoZero, FitsFlags}
+use Rattle.export_trie.specs.Planning.{HasNumber}
 use Rattle.export_trie.proofs.ChildLaws.{children_at-more}
 use Rattle.export_trie.proofs.FillLaws.{length-uleb4}
 
@@ -47,12 +49,12 @@ target_back flags (Absolute value) rest fits small =
     ∙ ap (λ (t : Target). let r : Result (Target × List ℕ) Rule = Ok (t, rest) in r) (cond-true (nat_eq (kind_of flags) 2) (Absolute value) (Offset value) fits.1))
 target_back flags (Reexport ordinal name) rest fits small =
     let named : List ℕ × List ℕ → Result (Target × List ℕ) Rule =
-    λ t. if nat_lt 16384 (length t.0) then Err TrieBadNode else Ok (Reexport ordinal t.0, t.1) in
+    λ t. if nat_lt name_limit (length t.0) then Err TrieBadNode else Ok (Reexport ordinal t.0, t.1) in
     ap (target_at flags) (append_assoc (uleb_bytes ordinal) (name ++ 0 ∷ []) rest ∙ ap (λ (l : List ℕ). uleb_bytes ordinal ++ l) (append_assoc name (0 ∷ []) rest))
     ∙ (rw (number_back ordinal (name ++ (0 ∷ rest)) small)
     (cond-true (is_reexport flags) (text_at (name ++ (0 ∷ rest)) >>= named) (Ok (value_of flags ordinal, name ++ (0 ∷ rest))) fits.0)
     ∙ (ap (λ (r : Result (List ℕ × List ℕ) Rule). r >>= named) (text_back name rest fits.1)
-    ∙ cond-false (nat_lt 16384 (length name)) (Err TrieBadNode) (Ok (Reexport ordinal name, rest)) (le-ltb 16384 (length name) fits.2)))
+    ∙ cond-false (nat_lt name_limit (length name)) (Err TrieBadNode) (Ok (Reexport ordinal name, rest)) (le-ltb name_limit (length name) fits.2)))
 
 -- a terminal that can be written
 abbrev pub IsSpellable : Option Terminal → Type 0
@@ -107,7 +109,7 @@ listed at (Branch edge terminal below next) = (edge, at) ∷ listed (at + (node_
 abbrev pub IsSound : ℕ → ℕ → Forest → Type 0
 IsSound low depth Bare = Unit {0}
 IsSound low depth (Branch edge terminal below next) =
-    (0 < length edge) × (low < first_of edge) × HasNoZero edge × IsSpellable terminal × (depth + length edge ≤ 16384) × IsSound 0 (depth + length edge) below × IsSound (first_of edge) depth next
+    (0 < length edge) × (low < first_of edge) × HasNoZero edge × IsSpellable terminal × (depth + length edge ≤ name_limit) × IsSound 0 (depth + length edge) below × IsSound (first_of edge) depth next
 
 abbrev AreLow : ℕ → List ℕ → Type 0
 AreLow low [] = Unit {0}

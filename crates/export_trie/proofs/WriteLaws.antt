@@ -7,6 +7,7 @@ use Rattle.std.specs.Cmp.Lexicographic.{slice_cmp, nat_list_cmp_total}
 use Rattle.std.proofs.lemmas.Bool.{cond-true, cond-false, cases_Bool, eqb-false}
 use Rattle.std.proofs.lemmas.List.{append-nil, reverse-append}
 use Rattle.std.proofs.lemmas.List.Sums.{sum_by-cons}
+use Rattle.dsc_base.specs.Limits.{name_limit}
 use Rattle.dsc_base.specs.Uleb.{uleb4_bytes}
 use Rattle.export_trie.specs.declared.export.Export.{Export}
 use Rattle.export_trie.specs.declared.export.Target.{Target}
@@ -15,7 +16,7 @@ use Rattle.export_trie.specs.Nodes.{Terminal}
 use Rattle.export_trie.specs.Order.{renamed_len, too_many}
 use Rattle.export_trie.specs.Paths.{Member}
 use Rattle.export_trie.specs.Writing.{Forest, Bare, Branch, forest, same_edge, other_edges, shared_len, own_terminal, going_on, children_count, edges_len, node_len, nodes_len, edges_bytes, node_bytes, nodes_bytes, rooted_bytes, terminal_bytes, trie_bytes, FitsFlags, IsWritable, IsWritableExport}
-use Rattle.export_trie.specs.Planning.{IsReady, Rising, bytes_of_names, grown, Plan, plans, open_edges, open_node, first_terminal, first_forest, first_rest, terminal_of_plan, forest_of_plan, plan_len, put_over, filled, following, IsHeld, AreHeld, IsWriting, IsOpenNode, IsNextNode}
+use Rattle.export_trie.specs.Planning.{IsReady, Rising, bytes_of_names, grown, Plan, plans, open_edges, open_node, first_terminal, first_forest, first_rest, terminal_of_plan, forest_of_plan, plan_len, AreShort, put_over, filled, following, IsHeld, AreHeld, IsWriting, IsOpenNode, IsNextNode}
 use Rattle.export_trie.proofs.GroupLaws.{within, ready_below, ready_next, group-Member, rest-Member}
 use Rattle.export_trie.proofs.PlanLaws.{grown-enough, planned, planned-some, length-other, left, left-names}
 use Rattle.export_trie.proofs.FillLaws.{length-uleb4, length-put_over, AreHoles, AreHoles-held, length-filled, filled-more, filled-append, following-append, plans_len, IsStand, stand}
@@ -47,10 +48,7 @@ AreHeld-more : (m n : ℕ) (coming : List Plan) → m ≤ n → AreHeld m coming
 AreHeld-more m n [] le held = tt
 AreHeld-more m n (plan ∷ coming) le held = (omega (arith, held.0), held.1, AreHeld-more m n coming le held.2)
 
-abbrev AreShort : List Export → Type 0
-AreShort exports = (export : Export) → Member export exports → renamed_len export.target ≤ 16384
-
-group-held : (depth : ℕ) (first : Export) (exports : List Export) → IsReady depth (first ∷ exports) → AreShort (first ∷ exports) → IsHeld (shared_len first.name (same_edge depth first exports)) (first ∷ same_edge depth first exports)
+pub group-held : (depth : ℕ) (first : Export) (exports : List Export) → IsReady depth (first ∷ exports) → AreShort (first ∷ exports) → IsHeld (shared_len first.name (same_edge depth first exports)) (first ∷ same_edge depth first exports)
 group-held depth first exports ready short = record {
   some = omega arith;
   ready = λ f others is.
@@ -71,7 +69,7 @@ group-held depth first exports ready short = record {
     head_is : (a b : Export) (others more : List Export) → a ∷ others ≡ b ∷ more → a ≡ b
     head_is a b others more is = cc
 
-    each : (export : Export) → Member export (first ∷ group) → renamed_len export.target ≤ 16384
+    each : (export : Export) → Member export (first ∷ group) → renamed_len export.target ≤ name_limit
     each export (inl is) = short export (inl is)
     each export (inr member) = short export (inr (group-Member depth first exports export member))
 
@@ -95,11 +93,11 @@ pub record IsNodeStand (depth : ℕ) (exports : List Export) (out out' : List �
   pub span : plans_len children ≡ nodes_len (first_forest depth exports)
   pub held : AreHeld (length out') children
 
-first_held : (depth : ℕ) (exports : List Export) → IsHeld depth exports → IsReady depth (first_rest depth exports) × (first_forest depth exports ≡ grown depth (first_rest depth exports))
+pub first_held : (depth : ℕ) (exports : List Export) → IsHeld depth exports → IsReady depth (first_rest depth exports) × (first_forest depth exports ≡ grown depth (first_rest depth exports))
 first_held depth [] held = absurd (omega (arith, held.some))
 first_held depth (first ∷ exports) held = ((held.ready first exports refl).0, refl)
 
-short_rest : (depth : ℕ) (exports : List Export) → IsHeld depth exports → AreShort (first_rest depth exports)
+pub short_rest : (depth : ℕ) (exports : List Export) → IsHeld depth exports → AreShort (first_rest depth exports)
 short_rest depth [] held export member = absurd member
 short_rest depth (first ∷ exports) held export member =
     elim (cases_Bool (nat_eq (length first.name) depth)) [
@@ -278,10 +276,10 @@ rising_from (first ∷ second ∷ exports) rises = (each (rising_from (second �
     each rising export (inl is) = subst (λ (e : Export). slice_cmp nat_cmp first.name e.name ≡ Less) (sym is) step
     each rising export (inr member) = nat_list_cmp_total.trans first.name second.name export.name step (rising.0 export member)
 
-pub renamed-short : (export : Export) → IsWritableExport export → renamed_len export.target ≤ 16384
+pub renamed-short : (export : Export) → IsWritableExport export → renamed_len export.target ≤ name_limit
 renamed-short export writable = go export.target writable.fits
   where
-    go : (target : Target) → FitsFlags export.flags target → renamed_len target ≤ 16384
+    go : (target : Target) → FitsFlags export.flags target → renamed_len target ≤ name_limit
     go (Offset value) fits = omega arith
     go (Absolute value) fits = omega arith
     go (Reexport ordinal name) fits = fits.2

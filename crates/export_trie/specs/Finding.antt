@@ -5,12 +5,19 @@ use Rattle.std.specs.Cmp.Lexicographic.{pointwise}
 use Rattle.export_trie.specs.declared.export.Export.{Export}
 use Rattle.export_trie.specs.declared.export.Target.{Target}
 use Rattle.export_trie.specs.declared.export.Target.TheVariants.{Offset, Absolute, Reexport}
+use Rattle.export_trie.specs.declared.export.Entry.{Entry}
+use Rattle.export_trie.specs.declared.export.Entry.TheVariants as entries
 use Rattle.export_trie.specs.declared.export.Found.{Found}
 use Rattle.export_trie.specs.declared.export.Found.TheVariants as found
 use Rattle.export_trie.specs.Nodes.{Child, Terminal}
 use Rattle.export_trie.specs.Paths.{Member, HasExport}
 
--- what was found, wherever its name lies
+-- where an entry leads, and what was found, wherever its name lies
+abbrev pub target_in : Entry → Target
+target_in (entries.Offset value) = Offset value
+target_in (entries.Absolute value) = Absolute value
+target_in (entries.Reexport ordinal name) = Reexport ordinal name.now
+
 abbrev pub target_found : Found → Option Target
 target_found (found.Offset value) = Some (Offset value)
 target_found (found.Absolute value) = Some (Absolute value)

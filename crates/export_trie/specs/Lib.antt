@@ -1,4 +1,7 @@
+pub mod Exports
 pub mod Finding
+pub mod Index
+pub mod Measuring
 pub mod Nodes
 pub mod Order
 pub mod Paths

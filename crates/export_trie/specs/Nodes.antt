@@ -1,5 +1,6 @@
 -- What one node of an export trie spells, or the first rule that it breaks. A reader gives what it read and the bytes after it.
 use Rattle.std.specs.Prelude.{ℕ, zero, suc, ◌-◌, bit_and, Bool, false, ◌&&◌, ◌||◌, not, List, [], ◌∷◌, length, drop, slice_index, Option, Some, None, Result, Ok, Err, nat_eq, nat_lt, nat_le, if◌then◌else◌}
+use Rattle.dsc_base.specs.Limits.{name_limit}
 use Rattle.dsc_base.specs.declared.fault.UlebFault.{UlebFault}
 use Rattle.dsc_base.specs.declared.rule.Rule.{Rule}
 use Rattle.dsc_base.specs.declared.rule.Rule.TheVariants.{TrieBadUleb, TrieEnded, TrieSiblingsClash, TrieBadFlags, TrieResolver, TrieBadNode}
@@ -49,7 +50,7 @@ target_at flags bytes = do
   number ← number_at bytes
   if is_reexport flags then (do
     name ← text_at number.1
-    if nat_lt 16384 (length name.0) then Err TrieBadNode else Ok (Reexport number.0 name.0, name.1)) else Ok (value_of flags number.0, number.1)
+    if nat_lt name_limit (length name.0) then Err TrieBadNode else Ok (Reexport number.0 name.0, name.1)) else Ok (value_of flags number.0, number.1)
 
 -- flags and target, in the bytes from the terminal's start; what is read of them is no longer than the terminal
 abbrev pub Terminal : Type 0

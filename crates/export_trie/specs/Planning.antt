@@ -1,9 +1,12 @@
 -- What the parts of writing promise each other.
-use Rattle.std.specs.Prelude.{◌≡◌, ◌<◌, ◌≤◌, ℕ, zero, suc, ◌+◌, ◌-◌, List, [], ◌∷◌, ◌++◌, length, take, drop, sum_by, slice_index, Option, None}
+use Rattle.std.specs.Prelude.{◌≡◌, ◌<◌, ◌≤◌, ℕ, zero, suc, ◌+◌, ◌-◌, ◌^◌, List, [], ◌∷◌, ◌++◌, length, take, drop, sum_by, slice_index, Option, None}
 use Rattle.std.specs.declared.cmp.Ordering.TheVariants.{Less}
 use Rattle.std.specs.Ordering.{nat_cmp}
 use Rattle.std.specs.Cmp.Lexicographic.{slice_cmp}
 use Rattle.export_trie.specs.declared.export.Export.{Export}
+use Rattle.export_trie.specs.declared.export.Target.{Target}
+use Rattle.export_trie.specs.declared.export.Target.TheVariants.{Offset, Absolute, Reexport}
+use Rattle.dsc_base.specs.Limits.{name_limit}
 use Rattle.dsc_base.specs.Uleb.{uleb4_bytes}
 use Rattle.export_trie.specs.Nodes.{Terminal}
 use Rattle.export_trie.specs.Order.{renamed_len}
@@ -82,11 +85,15 @@ following at (plan ∷ coming) =
     (node_bytes (at + node_len (terminal_of_plan plan) (forest_of_plan plan)) (terminal_of_plan plan) (forest_of_plan plan) ++ nodes_bytes (at + node_len (terminal_of_plan plan) (forest_of_plan plan)) (forest_of_plan plan))
     ++ following (at + plan_len plan) coming
 
+-- the names that re-exports have keep within their limit
+abbrev pub AreShort : List Export → Type 0
+AreShort exports = (export : Export) → Member export exports → renamed_len export.target ≤ name_limit
+
 -- a plan that can be written
 pub record IsHeld (depth : ℕ) (exports : List Export) : Type 0 where
   pub some : 0 < length exports
   pub ready : (first : Export) (others : List Export) → exports ≡ first ∷ others → IsReady depth (going_on depth first others) × (depth ≤ length first.name)
-  pub renamed : (export : Export) → Member export exports → renamed_len export.target ≤ 16384
+  pub renamed : AreShort exports
 
 abbrev pub AreHeld : ℕ → List Plan → Type 0
 AreHeld len [] = Unit {0}
@@ -128,3 +135,12 @@ pub record IsNextNode (plan : Plan) (out out' : List ℕ) (coming coming' : List
   pub middle : List ℕ
   pub filled_in : middle ≡ put_over plan.hole (uleb4_bytes (length out)) out
   pub node : IsOpenNode plan.depth plan.exports middle out' coming coming'
+
+-- each number is one of 64 bits, as any in memory is
+abbrev pub HasNumber : Target → Type 0
+HasNumber (Offset value) = value < 2 ^ 64
+HasNumber (Absolute value) = value < 2 ^ 64
+HasNumber (Reexport ordinal name) = ordinal < 2 ^ 64
+
+abbrev pub HaveNumbers : List Export → Type 0
+HaveNumbers exports = (export : Export) → Member export exports → HasNumber export.target

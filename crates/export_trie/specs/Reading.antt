@@ -1,19 +1,16 @@
 -- What the parts of reading promise each other.
 use Rattle.std.specs.Prelude.{◌≡◌, ◌<◌, ◌≤◌, ◌⊎◌, ℕ, ◌+◌, ◌*◌, Bool, true, false, not, List, [], ◌∷◌, ◌++◌, length, take, map, sum_by, count_by, slice_index_or, slice_set, Option, Some, None, Result, Ok, Err}
+use Rattle.dsc_base.specs.Limits.{name_limit}
 use Rattle.dsc_base.specs.declared.rule.Rule.{Rule}
 use Rattle.dsc_base.specs.declared.rule.Rule.TheVariants.{TrieNodeTwice, TrieBadNode, TrieTooManyNames}
 use Rattle.dsc_base.specs.declared.fault.Fault.{Fault}
 use Rattle.dsc_base.specs.declared.fault.Fault.TheVariants as faults
-use Rattle.dsc_base.specs.declared.fault.Site.{Site}
 use Rattle.export_trie.specs.declared.export.Export.{Export}
-use Rattle.export_trie.specs.declared.export.Target.{Target}
-use Rattle.export_trie.specs.declared.export.Target.TheVariants.{Offset, Absolute, Reexport}
-use Rattle.export_trie.specs.declared.node.Entry.{Entry}
-use Rattle.export_trie.specs.declared.node.Entry.TheVariants as entries
 use Rattle.export_trie.specs.declared.node.Terminal.{Terminal as HeldTerminal}
 use Rattle.export_trie.specs.declared.node.ReadFault.{ReadFault}
 use Rattle.export_trie.specs.declared.node.ReadFault.TheVariants as read_faults
 use Rattle.export_trie.specs.Nodes.{Terminal, Child, among, terminal_of}
+use Rattle.export_trie.specs.Finding.{target_in}
 use Rattle.export_trie.specs.Order.{Visit, visited, exported, export_of, opened, entered, below, starts, names_len, too_many}
 
 -- a reader's answer, seen by view, is what reading gives
@@ -22,11 +19,6 @@ Reads view (Ok x) read = read ≡ Ok (view x)
 Reads view (Err rule) read = read ≡ Err rule
 
 -- a terminal, wherever its name lies
-abbrev pub target_in : Entry → Target
-target_in (entries.Offset value) = Offset value
-target_in (entries.Absolute value) = Absolute value
-target_in (entries.Reexport ordinal name) = Reexport ordinal name.now
-
 abbrev pub terminal_in : HeldTerminal → Terminal
 terminal_in terminal = (terminal.flags, target_in terminal.target)
 
@@ -82,7 +74,7 @@ pub record Stands (trie : List ℕ) (marks : List Bool) (name : List ℕ) (comin
   pub wide : length marks ≡ length trie
   pub counted : length made + count_by not marks ≡ length trie
   pub nested : Nested (length name) coming
-  pub short : length name ≤ 16384
+  pub short : length name ≤ name_limit
   pub inside : Inside (length trie) coming
   pub listed : exports ≡ exported trie made
   pub sized : size ≡ sum_by names_len exports
@@ -97,13 +89,13 @@ pub record IsEntered (next : Pend) (marks marks' : List Bool) (name name' : List
   pub unmarked : slice_index_or marks next.offset false ≡ false
   pub marked : marks' ≡ slice_set marks next.offset true
   pub named : name' ≡ take next.prefix name ++ next.edge
-  pub short : length name' ≤ 16384
+  pub short : length name' ≤ name_limit
 
 abbrev pub Enters : Pend → List Bool → List Bool → List ℕ → List ℕ → Result Unit ReadFault → Type 0
 Enters next marks marks' name name' (Ok done) = IsEntered next marks marks' name name'
 Enters next marks marks' name name' (Err read_faults.Memory) = Unit {0}
 Enters next marks marks' name name' (Err (read_faults.Broken rule)) =
-    ((slice_index_or marks next.offset false ≡ true) × (rule ≡ TrieNodeTwice)) ⊎ ((slice_index_or marks next.offset false ≡ false) × (16384 < length (take next.prefix name ++ next.edge)) × (rule ≡ TrieBadNode))
+    ((slice_index_or marks next.offset false ≡ true) × (rule ≡ TrieNodeTwice)) ⊎ ((slice_index_or marks next.offset false ≡ false) × (name_limit < length (take next.prefix name ++ next.edge)) × (rule ≡ TrieBadNode))
 
 -- a terminal is kept as an export
 pub record IsKept (name : List ℕ) (terminal : Option Terminal) (exports exports' : List Export) (size' : ℕ) : Type 0 where
@@ -137,11 +129,7 @@ pub record IsWalked (trie : List ℕ) (exports : List Export) : Type 0 where
   pub listed : exports ≡ exported trie made
   pub few : too_many exports ≡ false
 
--- a fault is the first rule that is broken
-abbrev pub IsBreakOf : Option Site → Fault → Type 0
-IsBreakOf found (faults.Broken site) = found ≡ Some site
-IsBreakOf found faults.Memory = Unit {0}
-
+-- the fault of a node
 abbrev pub fault_at : ℕ → ReadFault → Fault
 fault_at offset (read_faults.Broken rule) = faults.Broken (record { rule = rule; at = offset })
 fault_at offset read_faults.Memory = faults.Memory

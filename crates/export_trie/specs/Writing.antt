@@ -1,6 +1,7 @@
 -- The bytes of a trie: names in bytewise order, the longest common edges, nodes in preorder, offsets of children in four bytes.
-use Rattle.std.specs.Prelude.{◌≡◌, ◌<◌, ◌≤◌, ℕ, zero, suc, ◌+◌, ◌^◌, min, List, [], ◌∷◌, ◌++◌, length, take, drop, sum_by, slice_index, slice_index_or, Option, Some, None, Bool, true, false, nat_eq, if◌then◌else◌}
+use Rattle.std.specs.Prelude.{◌≡◌, ◌<◌, ◌≤◌, ℕ, zero, suc, ◌+◌, min, List, [], ◌∷◌, ◌++◌, length, take, drop, sum_by, slice_index, slice_index_or, Option, Some, None, Bool, true, false, nat_eq, if◌then◌else◌}
 use Rattle.std.specs.List.{prefix_len, common_prefix_len}
+use Rattle.dsc_base.specs.Limits.{name_limit}
 use Rattle.dsc_base.specs.Uleb.{uleb_bytes, uleb4_bytes}
 use Rattle.export_trie.specs.declared.export.Export.{Export}
 use Rattle.export_trie.specs.declared.export.Target.{Target}
@@ -103,10 +104,10 @@ HasNoZero (byte ∷ bytes) = (0 < byte) × HasNoZero bytes
 abbrev pub FitsFlags : ℕ → Target → Type 0
 FitsFlags flags (Offset value) = (is_reexport flags ≡ false) × (nat_eq (kind_of flags) 2 ≡ false)
 FitsFlags flags (Absolute value) = (is_reexport flags ≡ false) × (nat_eq (kind_of flags) 2 ≡ true)
-FitsFlags flags (Reexport ordinal name) = (is_reexport flags ≡ true) × HasNoZero name × (length name ≤ 16384)
+FitsFlags flags (Reexport ordinal name) = (is_reexport flags ≡ true) × HasNoZero name × (length name ≤ name_limit)
 
 pub record IsWritableExport (export : Export) : Type 0 where
-  pub short : length export.name ≤ 16384
+  pub short : length export.name ≤ name_limit
   pub plain : HasNoZero export.name
   pub known : are_bad_flags export.flags ≡ false
   pub no_resolver : is_resolver export.flags ≡ false
@@ -117,12 +118,3 @@ pub record IsWritable (exports : List Export) : Type 0 where
   pub rises : (k : ℕ) (d : Export) → k + 1 < length exports → slice_cmp nat_cmp (slice_index_or exports k d).name (slice_index_or exports (k + 1) d).name ≡ Less
   pub each : (export : Export) → Member export exports → IsWritableExport export
   pub few : too_many exports ≡ false
-
--- each number is one of 64 bits, as any in memory is
-abbrev pub HasNumber : Target → Type 0
-HasNumber (Offset value) = value < 2 ^ 64
-HasNumber (Absolute value) = value < 2 ^ 64
-HasNumber (Reexport ordinal name) = ordinal < 2 ^ 64
-
-abbrev pub HaveNumbers : List Export → Type 0
-HaveNumbers exports = (export : Export) → Member export exports → HasNumber export.target

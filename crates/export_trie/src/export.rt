@@ -15,8 +15,9 @@ pub enum Target {
     Reexport { ordinal: u64, name: Name },
 }
 
-/// A name that an image exports. `flags` has the kind in its low two bits (0 regular, 1 thread-local,
-/// 2 absolute), 0x04 for a weak definition and 0x08 for a re-export, as `mach-o/loader.h` has them.
+/// A name that an image exports. `flags` are the `EXPORT_SYMBOL_FLAGS_*` of Apple's `mach-o/loader.h`: the
+/// kind in the low two bits (0 regular, 1 thread-local, 2 absolute), 0x04 for a weak definition and 0x08 for
+/// a re-export.
 #[derive(Debug, Drop, PartialEq, Eq)]
 pub struct Export {
     pub name: Name,
@@ -24,11 +25,26 @@ pub struct Export {
     pub target: Target,
 }
 
-/// What a trie has of a name.
+/// Where an export leads, where the name that a re-export has there is not copied.
+#[derive(Clone, Copy, Debug, PartialEq, Eq)]
+pub enum Entry<'a> {
+    /// An offset from the image's header.
+    Offset(u64),
+    /// A value that is the same at every address.
+    Absolute(u64),
+    /// The export of another library, as in `Target`.
+    Reexport { ordinal: u64, name: &'a [u8] },
+}
+
+/// What a trie has of a name: where its export leads, or that it has no export of that name.
 #[derive(Clone, Copy, Debug, PartialEq, Eq)]
 pub enum Found<'a> {
+    /// An offset from the image's header.
     Offset(u64),
+    /// A value that is the same at every address.
     Absolute(u64),
+    /// The export of another library, as in `Target`.
     Reexport { ordinal: u64, name: &'a [u8] },
+    /// No export has the name.
     Absent,
 }

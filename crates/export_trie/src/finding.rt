@@ -1,13 +1,12 @@
 // One export of a trie that is known to be sound, by the one path that its name leads along.
 ghost use Rattle.std.specs.Prelude.{◌≡◌, ◌≤◌, ℕ, List, length, None, Some, Ok, Option};
-ghost use Rattle.export_trie.specs.declared.export.Export.{Export};
 ghost use Rattle.export_trie.specs.Nodes.{Terminal, Child, head_at, children_at, node_at};
 ghost use Rattle.export_trie.specs.Order.{trie_break};
-ghost use Rattle.export_trie.specs.Paths.{AreExports};
+ghost use Rattle.export_trie.specs.Exports.{exports_of};
 ghost use Rattle.export_trie.specs.Finding.{target_found, target_named, IsTargetOf, Follows, step_of, rest_of, target_of};
 
-use crate::export::Found;
-use crate::node::{Entry, read_head, read_number, read_text};
+use crate::export::{Entry, Found};
+use crate::node::{read_head, read_number, read_text};
 
 // The bytes after a node's terminal, which begin with the count of its children.
 #[tactic(auto, unfolding(crate::specs::Nodes::head_at))]
@@ -80,7 +79,7 @@ pub fn find<'a>(bytes: &'a [u8], name: &[u8]) -> Found<'a>
     requires { trie_break bytes.now ≡ None }
     // By the paths of the trie, and by its list.
     ensures path { IsTargetOf bytes.entry.now name.now (target_found result) }
-    ensures entry { (exports : List Export) → AreExports bytes.entry.now exports → target_found result ≡ target_named exports name.now }
+    ensures entry { target_found result ≡ target_named (exports_of bytes.entry.now) name.now }
 {
     if bytes.is_empty() {
         return Found::Absent;

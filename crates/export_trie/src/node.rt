@@ -3,14 +3,13 @@ ghost use Rattle.std.specs.Prelude.{◌≡◌, ◌<◌, ◌≤◌, ◌^◌, ◌+
 ghost use Rattle.export_trie.specs.declared.node.ReadFault.TheVariants as faults;
 ghost use Rattle.dsc_base.specs.declared.rule.Rule.TheVariants.{TrieBadFlags, TrieResolver};
 ghost use Rattle.export_trie.specs.Nodes.{number_at, text_at, target_at, terminal_at, head_at, child_at, are_bad_flags, is_resolver};
-ghost use Rattle.export_trie.specs.Reading.{Reads, fault_at, Marks, target_in, terminal_in, some_terminal_in};
+ghost use Rattle.export_trie.specs.Finding.{target_in};
+ghost use Rattle.export_trie.specs.Reading.{Reads, fault_at, Marks, terminal_in, some_terminal_in};
 
-use dsc_base::{Fault, NoMemory, Rule, Site, read_uleb};
+use crate::export::Entry;
+use dsc_base::{Fault, NAME_LIMIT, NoMemory, Rule, Site, read_uleb};
 use memchr::memchr;
 use std::alloc::{AllocError, AllocFailed};
-
-/// The most bytes of a name.
-pub(crate) const NAME_LIMIT: usize = 16_384;
 
 /// The bits of an export's flags: the kind, and two flags.
 const KIND_MASK: u64 = 0x03;
@@ -23,14 +22,6 @@ const STUB_AND_RESOLVER: u64 = 0x10;
 const ABSOLUTE: u64 = 2;
 
 const NO_KIND: u64 = 3;
-
-/// Where an export leads, its name still in the trie.
-#[derive(Clone, Copy)]
-pub(crate) enum Entry<'a> {
-    Offset(u64),
-    Absolute(u64),
-    Reexport { ordinal: u64, name: &'a [u8] },
-}
 
 /// What stands at a node that ends a name.
 #[derive(Clone, Copy)]

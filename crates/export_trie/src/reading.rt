@@ -2,27 +2,25 @@
 ghost use Rattle.std.specs.Prelude.{ℕ, List, ◌≡◌, ◌<◌, ◌≤◌, ◌∷◌, ◌+◌, false, length, reverse, sum_by, None, IfOk, OnOk, IfErr};
 ghost use Rattle.export_trie.specs.Order.{trie_break, names_len, renamed_len, too_many};
 ghost use Rattle.export_trie.specs.declared.export.Export.{Export};
-ghost use Rattle.export_trie.specs.Writing.{IsWritable, HaveNumbers};
+ghost use Rattle.export_trie.specs.Writing.{IsWritable};
+ghost use Rattle.dsc_base.specs.Limits.{name_limit};
+ghost use Rattle.dsc_base.specs.Refusals.{IsRefusal, Refuses};
+ghost use Rattle.export_trie.specs.Exports.{exports_of};
 ghost use Rattle.export_trie.specs.Paths.{AreExports};
-ghost use Rattle.export_trie.specs.Reading.{Enters, Keeps, Opens, Stands, weight, IsWalked, IsBreakOf, fault_at, target_in, some_terminal_in};
+ghost use Rattle.export_trie.specs.Finding.{target_in};
+ghost use Rattle.export_trie.specs.Reading.{Enters, Keeps, Opens, Stands, weight, IsWalked, fault_at, some_terminal_in};
 
 use crate::children::{Pending, push_children};
-use crate::export::{Export, Target};
-use crate::node::{Entry, NAME_LIMIT, ReadFault, Terminal, read_head};
-use dsc_base::{Fault, Name, NoMemory, Rule, Site};
+use crate::export::{Entry, Export, Target};
+use crate::node::{ReadFault, Terminal, read_head};
+use dsc_base::{EXPORT_NAMES_LIMIT, Fault, NAME_LIMIT, Name, NoMemory, RECORD_LIMIT, Rule, Site};
 use std::alloc::Global;
-
-/// The most exports of one trie.
-const EXPORT_LIMIT: usize = 1_048_576;
-
-/// The most bytes of all names of one trie, those of re-exports too.
-const NAMES_LIMIT: u64 = 134_217_728;
 
 // Marks the node and puts its name in place of the name at hand.
 fn enter(next: &Pending<'_>, marks: &mut Vec<bool>, name: &mut Vec<u8>) -> Result<(), ReadFault>
     requires inside { next.now.offset < length marks.old.items }
     requires prefix { next.now.prefix ≤ length name.old.items }
-    requires short { length name.old.items ≤ 16384 }
+    requires short { length name.old.items ≤ name_limit }
     ensures { Enters next.now marks.old.items marks.new.items name.old.items name.new.items result }
 {
     if marks[next.offset] {
@@ -78,7 +76,7 @@ fn keep(
         return Ok(());
     };
     let added = name.len() as u64 + renamed_len(&terminal.target);
-    if exports.len() >= EXPORT_LIMIT || added > NAMES_LIMIT - *size {
+    if exports.len() >= RECORD_LIMIT || added > EXPORT_NAMES_LIMIT - *size {
         return Err(ReadFault::Broken(Rule::TrieTooManyNames));
     }
     let export = Export {
@@ -131,7 +129,7 @@ impl<'a> Walk<'a> {
         requires stands { Stands self.old.bytes.now self.old.marks.items self.old.name.items (next.now ∷ reverse self.old.pending.items) self.old.exports.items self.old.size }
         ensures bytes { self.new.bytes ≡ self.old.bytes }
         ensures stands { OnOk result (Stands self.old.bytes.now self.new.marks.items self.new.name.items (reverse self.new.pending.items) self.new.exports.items self.new.size) }
-        ensures fault { IfErr result (λ fault. IsBreakOf (trie_break self.old.bytes.now) (fault_at next.now.offset fault)) }
+        ensures fault { IfErr result (λ fault. IsRefusal (trie_break self.old.bytes.now) (fault_at next.now.offset fault)) }
         ensures falls { OnOk result (weight self.new.marks.items self.new.pending.items < weight self.old.marks.items self.old.pending.items) }
     {
         enter(next, &mut self.marks, &mut self.name)?;
@@ -151,7 +149,7 @@ impl<'a> Walk<'a> {
 fn walk_all(alloc: Global, bytes: &[u8]) -> Result<Vec<Export>, Fault>
     ensures walked { IfOk result (λ exports. IsWalked bytes.now exports.items) }
     ensures accepted { OnOk result (trie_break bytes.now ≡ None) }
-    ensures fault { IfErr result (IsBreakOf (trie_break bytes.now)) }
+    ensures fault { IfErr result (IsRefusal (trie_break bytes.now)) }
 {
     let mut walk = start(alloc, bytes)?;
     while let Some(next) = walk.pending.pop() {
@@ -185,18 +183,30 @@ fn start<'a>(alloc: Global, bytes: &'a [u8]) -> Result<Walk<'a>, NoMemory>
     })
 }
 
-/// All exports of a trie, in bytewise order of their names. A trie of no bytes has none.
+/// All exports of a trie, in bytewise order of their names; none where it has no bytes. The format is that of
+/// the export information of `LC_DYLD_INFO` in Apple's `mach-o/loader.h` (`EXPORT_SYMBOL_FLAGS_*`).
 ///
-/// `Broken` has the first rule that the trie breaks, where each node is read whole and then its children in
-/// spelled order, and the offset of the node that breaks it: `TrieBadUleb`, `TrieEnded`, `TrieNodeTwice`,
-/// `TrieSiblingsClash`, `TrieBadFlags`, `TrieResolver`, `TrieBadNode` or `TrieTooManyNames`. The format is
-/// that of `EXPORT_SYMBOL_FLAGS` in `mach-o/loader.h` and of dyld's export tries.
+/// A node is read whole and then its children in spelled order. `Broken` has the first rule that is broken,
+/// and the offset in the trie of the node that breaks it:
+///
+/// - `TrieBadUleb`: a number has no end, or more than 64 bits.
+/// - `TrieEnded`: the node ends past the trie, or a child begins past it.
+/// - `TrieNodeTwice`: the node is reached a second time.
+/// - `TrieSiblingsClash`: two edges begin with the same byte.
+/// - `TrieBadFlags`: the flags have a bit above 0x10, or a kind that is none or doesn't go with 0x08.
+/// - `TrieResolver`: the flags have 0x10, a stub and its resolver.
+/// - `TrieBadNode`: what is read of a terminal is longer than the terminal, an edge is empty, or a name has
+///   more than `NAME_LIMIT` bytes.
+/// - `TrieTooManyNames`: there are more than `RECORD_LIMIT` exports, or their names and the names that
+///   re-exports have there come to more than `EXPORT_NAMES_LIMIT` bytes.
+///
+/// `Memory` says that memory ran out.
 pub fn read_trie(alloc: Global, bytes: &[u8]) -> Result<Vec<Export>, Fault>
-    ensures list { IfOk result (λ exports. AreExports bytes.now exports.items) }
-    ensures only { (exports : List Export) → AreExports bytes.now exports → IfOk result (λ list. list.items ≡ exports) }
-    ensures writable { IfOk result (λ exports. IsWritable exports.items × HaveNumbers exports.items) }
-    ensures accepted { OnOk result (trie_break bytes.now ≡ None) }
-    ensures fault { IfErr result (IsBreakOf (trie_break bytes.now)) }
+    // By the trie's tree, and by its paths.
+    ensures exports { IfOk result (λ exports. exports.items ≡ exports_of bytes.now) }
+    ensures paths { IfOk result (λ exports. AreExports bytes.now exports.items) }
+    ensures writable { IfOk result (λ exports. IsWritable exports.items) }
+    ensures refuses { Refuses (trie_break bytes.now) result }
 {
     let mut exports = walk_all(alloc, bytes)?;
     exports.sort_by(|a, b| a.name.cmp(&b.name))?;

@@ -1,11 +1,12 @@
 // Writes a trie: nodes in preorder, each with room for the offsets of its children until they are known.
 ghost use Rattle.std.specs.Prelude.{◌≡◌, ◌<◌, ◌≤◌, ◌++◌, ◌+◌, ◌^◌, ◌∷◌, ◌-◌, [], List, take, drop, reverse, length, slice_index, OnOk, IfOk, All, nat_eq, MatchOption, None};
 ghost use Rattle.std.specs.List.{prefix_len, common_prefix_len};
-ghost use Rattle.export_trie.specs.Writing.{trie_bytes, IsWritable, HaveNumbers, target_bytes, terminal_bytes, own_terminal, goes_with, same_edge, other_edges, shared_len};
+ghost use Rattle.export_trie.specs.Writing.{trie_bytes, IsWritable, target_bytes, terminal_bytes, own_terminal, goes_with, same_edge, other_edges, shared_len};
 ghost use Rattle.export_trie.specs.Order.{renamed_len, trie_break};
-ghost use Rattle.export_trie.specs.Paths.{AreExports};
+ghost use Rattle.export_trie.specs.Exports.{exports_of};
+ghost use Rattle.dsc_base.specs.Limits.{name_limit};
 ghost use Rattle.dsc_base.specs.Uleb.{uleb4_bytes};
-ghost use Rattle.export_trie.specs.Planning.{Plan, IsReady, ArePlanned, IsGroup, IsHeld, IsOpenNode, IsNextNode, put_over};
+ghost use Rattle.export_trie.specs.Planning.{Plan, IsReady, ArePlanned, IsGroup, IsHeld, IsOpenNode, IsNextNode, HasNumber, put_over};
 ghost use Rattle.export_trie.specs.declared.export.Export.{Export};
 
 use crate::children::turn_from;
@@ -16,10 +17,10 @@ use std::marker::Model;
 
 // How many bytes `put_target` appends.
 #[tactic(auto, unfolding(crate::specs::Writing::target_bytes))]
-fn target_len(target: &Target) -> u64
-    requires { renamed_len target.now ≤ 16384 }
+pub(crate) fn target_len(target: &Target) -> u64
+    requires { renamed_len target.now ≤ name_limit }
     ensures len { result ≡ length (target_bytes target.now) }
-    ensures few { result ≤ 16400 }
+    ensures few { result ≤ name_limit + 16 }
 {
     match target {
         Target::Offset(value) | Target::Absolute(value) => uleb_len(*value) as u64,
@@ -47,7 +48,7 @@ fn put_target(out: &mut Vec<u8>, target: &Target) -> Result<(), NoMemory>
 // The terminal of a node whose name has `depth` bytes, or that it has none.
 #[tactic(auto, unfolding(crate::specs::Writing::terminal_bytes))]
 fn put_terminal(out: &mut Vec<u8>, depth: usize, first: &Export) -> Result<(), NoMemory>
-    requires { renamed_len first.now.target ≤ 16384 }
+    requires { renamed_len first.now.target ≤ name_limit }
     ensures { OnOk result (out.new.items ≡ out.old.items ++ terminal_bytes (own_terminal depth first.now)) }
 {
     if first.name.as_slice().len() != depth {
@@ -142,15 +143,15 @@ fn put_edge(out: &mut Vec<u8>, depth: usize, len: usize, first: &Export) -> Resu
 
 // Exports whose names have `len` bytes in common, and those behind them.
 #[derive(Clone, Copy)]
-struct Group<'a> {
+pub(crate) struct Group<'a> {
     first: &'a Export,
-    exports: &'a [Export],
-    len: usize,
-    rest: &'a [Export],
+    pub(crate) exports: &'a [Export],
+    pub(crate) len: usize,
+    pub(crate) rest: &'a [Export],
 }
 
 // The first exports that have the same byte at `depth`.
-fn next_group<'a>(depth: usize, exports: &'a [Export]) -> Option<Group<'a>>
+pub(crate) fn next_group<'a>(depth: usize, exports: &'a [Export]) -> Option<Group<'a>>
     requires { IsReady depth exports.now }
     ensures { MatchOption result (exports.entry.now ≡ []) (λ group. IsGroup depth exports.entry.now group.first.now group.exports.now group.rest.now group.len) }
 {
@@ -269,17 +270,42 @@ fn put_piece(bytes: &mut [u8], at: usize, piece: &[u8])
     bytes[at..at + piece.len()].copy_from_slice(piece);
 }
 
-/// The trie of these exports, as `read_trie` gives them: nodes in preorder with the longest common edges,
-/// offsets of children in four bytes, all other numbers as short as they can be. No bytes for no exports.
+// The number of a target, which is one of 64 bits.
+fn number_of(target: &Target) -> u64
+    ensures { HasNumber target.now }
+{
+    match target {
+        Target::Offset(value) | Target::Absolute(value) => *value,
+        Target::Reexport { ordinal, .. } => *ordinal,
+    }
+}
+
+// All numbers of exports are of 64 bits, since each is read.
+fn read_numbers(exports: &[Export])
+    ensures { All (λ export. HasNumber export.target) exports.now }
+{
+    for export in exports {
+        number_of(&export.target);
+    }
+}
+
+/// The trie of these exports, in the format that `read_trie` has: nodes in preorder with the longest common
+/// edges, offsets of children in four bytes, all other numbers as short as they can be. No bytes for no
+/// exports.
 ///
-/// Names rise strictly and have no byte 0, like the names of re-exports; flags fit their targets; and the
-/// limits of a trie are kept.
+/// The names rise strictly, and neither they nor the names that re-exports have have a byte 0. The flags
+/// break no rule and fit their targets: 0x08 goes with `Reexport`, the kind 2 with `Absolute`. No name is
+/// longer than `NAME_LIMIT`, and the exports keep within `RECORD_LIMIT` and `EXPORT_NAMES_LIMIT`.
+///
+/// `NoMemory` says that memory ran out.
 pub fn write_trie(alloc: Global, exports: &[Export]) -> Result<Vec<u8>, NoMemory>
     requires { IsWritable exports.now }
     ensures bytes { IfOk result (λ bytes. bytes.items ≡ trie_bytes exports.now) }
     // It is accepted, and its exports are these.
-    ensures read_back { IfOk result (λ bytes. HaveNumbers exports.now → (trie_break bytes.items ≡ None) × AreExports bytes.items exports.now) }
+    ensures accepted { IfOk result (λ bytes. trie_break bytes.items ≡ None) }
+    ensures read_back { IfOk result (λ bytes. exports_of bytes.items ≡ exports.now) }
 {
+    read_numbers(exports);
     let mut out = Vec::new(alloc);
     if exports.is_empty() {
         return Ok(out);

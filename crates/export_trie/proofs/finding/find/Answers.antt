@@ -2,16 +2,18 @@
 use Rattle.std.proofs.Common.{◌<◌, length, arith, rules, sym, subst, ◌∙◌}
 use Rattle.std.specs.Prelude.{Option, None}
 use Rattle.export_trie.specs.declared.export.Target.{Target}
+use Rattle.export_trie.specs.Exports.{exports_of}
 use Rattle.export_trie.specs.Finding.{IsTargetOf, target_of}
 use Rattle.export_trie.proofs.EntryLaws.{absent_from_nothing, followed_none, followed_more, followed_shorter, followed_absent, followed_all, read_inside, entry_of_target}
+use Rattle.export_trie.proofs.ExportLaws.{exports_are}
 use Rattle.export_trie.proofs.finding.find.Goals as goal
 
 pub returns-then-is_empty-clause-path : goal.returns-then-is_empty-clause-path
 returns-then-is_empty-clause-path c = absent_from_nothing c.args.bytes.now c.args.name.now (search rules)
 
 pub returns-then-is_empty-clause-entry : goal.returns-then-is_empty-clause-entry
-returns-then-is_empty-clause-entry c exports list =
-    entry_of_target c.args.bytes.now c.args.name.now None exports (absent_from_nothing c.args.bytes.now c.args.name.now (search rules)) list
+returns-then-is_empty-clause-entry c =
+    entry_of_target c.args.bytes.now c.args.name.now None (exports_of c.args.bytes.now) (absent_from_nothing c.args.bytes.now c.args.name.now (search rules)) (exports_are c.args.bytes.now c.requires)
 
 pub loop-rest-init : goal.loop-rest-init
 loop-rest-init c =
@@ -25,11 +27,11 @@ returns-in_default-clause-path c =
     (c.in_default.ensures so.2.node.terminal so.2.node.children so.2.node.node)
 
 pub returns-in_default-clause-entry : goal.returns-in_default-clause-entry
-returns-in_default-clause-entry c exports list =
+returns-in_default-clause-entry c =
     let so = c.loop-rest.invariant in
-    entry_of_target c.args.bytes.now c.args.name.now None exports
+    entry_of_target c.args.bytes.now c.args.name.now None (exports_of c.args.bytes.now)
     (followed_absent c.args.bytes.now c.args.name.now c.loop-rest.at c.loop-rest.rest.now so.2 (search rules)
-    (c.in_default.ensures so.2.node.terminal so.2.node.children so.2.node.node)) list
+    (c.in_default.ensures so.2.node.terminal so.2.node.children so.2.node.node)) (exports_are c.args.bytes.now c.requires)
 
 pub loop-rest-smaller : goal.loop-rest-smaller
 loop-rest-smaller c =
@@ -52,8 +54,8 @@ returns-clause-path c =
     (followed_all c.args.bytes.now c.args.name.now c.loop-rest.at c.loop-rest.rest.now so.2 (search rules))
 
 pub returns-clause-entry : goal.returns-clause-entry
-returns-clause-entry c exports list =
+returns-clause-entry c =
     let so = c.loop-rest.invariant in
     c.entry_at.ensures so.2.node.terminal so.2.node.children so.2.node.node
-    ∙ entry_of_target c.args.bytes.now c.args.name.now (target_of so.2.node.terminal) exports
-    (followed_all c.args.bytes.now c.args.name.now c.loop-rest.at c.loop-rest.rest.now so.2 (search rules)) list
+    ∙ entry_of_target c.args.bytes.now c.args.name.now (target_of so.2.node.terminal) (exports_of c.args.bytes.now)
+    (followed_all c.args.bytes.now c.args.name.now c.loop-rest.at c.loop-rest.rest.now so.2 (search rules)) (exports_are c.args.bytes.now c.requires)

@@ -2,7 +2,7 @@
 use Rattle.std.proofs.Common.{[], arith, rules}
 use Rattle.std.specs.Prelude.{count_by, not}
 use Rattle.export_trie.specs.Reading.{Reaches}
-use Rattle.export_trie.proofs.ReadLaws.{trie_break-none}
+use Rattle.export_trie.proofs.BreakLaws.{trie_break-none}
 use Rattle.export_trie.proofs.reading.walk_all.Goals as goal
 
 pub returns-clause-accepted : goal.returns-clause-accepted

@@ -3,7 +3,7 @@ use Rattle.std.proofs.Common.{◌≡◌, ◌∙◌, [], List, reverse, subst, ap
 use Rattle.std.proofs.lemmas.List.{nil_from_length}
 use Rattle.export_trie.specs.Writing.{trie_bytes}
 use Rattle.export_trie.specs.Planning.{Plan, IsWriting}
-use Rattle.export_trie.proofs.RoundLaws.{round_trip}
+use Rattle.export_trie.proofs.ExportLaws.{read_back}
 use Rattle.export_trie.proofs.SizeLaws.{trie_small}
 use Rattle.export_trie.proofs.WriteLaws.{written_none, all_held, first_written, popped_plan, next_written, next_longer, writing_all, writing_within}
 use Rattle.export_trie.proofs.writing.write_trie.Goals as goal
@@ -11,9 +11,13 @@ use Rattle.export_trie.proofs.writing.write_trie.Goals as goal
 pub returns-then-is_empty-clause-bytes : goal.returns-then-is_empty-clause-bytes
 returns-then-is_empty-clause-bytes c = c.new-out.ensures.items ∙ written_none c.args.exports.now (search rules)
 
+pub returns-then-is_empty-clause-accepted : goal.returns-then-is_empty-clause-accepted
+returns-then-is_empty-clause-accepted c =
+    (read_back c.args.exports.now c.new-out.result.items (c.new-out.ensures.items ∙ written_none c.args.exports.now (search rules)) c.requires c.read_numbers.ensures).0
+
 pub returns-then-is_empty-clause-read_back : goal.returns-then-is_empty-clause-read_back
-returns-then-is_empty-clause-read_back c numbers =
-    round_trip c.args.exports.now c.new-out.result.items (c.new-out.ensures.items ∙ written_none c.args.exports.now (search rules)) c.requires numbers
+returns-then-is_empty-clause-read_back c =
+    (read_back c.args.exports.now c.new-out.result.items (c.new-out.ensures.items ∙ written_none c.args.exports.now (search rules)) c.requires c.read_numbers.ensures).1
 
 pub put_node-requires : goal.put_node-requires
 put_node-requires c = all_held c.args.exports.now (search rules) c.requires
@@ -46,9 +50,16 @@ returns-clause-bytes c =
     let none : reverse c.loop-next.pending.items ≡ [] = ap reverse (nil_from_length c.loop-next.pending.items (search rules)) in
     writing_all (trie_bytes c.args.exports.now) c.loop-next.out.items (subst (λ (l : List Plan). IsWriting (trie_bytes c.args.exports.now) c.loop-next.out.items l) none c.loop-next.invariant)
 
-pub returns-clause-read_back : goal.returns-clause-read_back
-returns-clause-read_back c numbers =
+pub returns-clause-accepted : goal.returns-clause-accepted
+returns-clause-accepted c =
     let none : reverse c.loop-next.pending.items ≡ [] = ap reverse (nil_from_length c.loop-next.pending.items (search rules)) in
-    round_trip c.args.exports.now c.loop-next.out.items
+    (read_back c.args.exports.now c.loop-next.out.items
     (writing_all (trie_bytes c.args.exports.now) c.loop-next.out.items (subst (λ (l : List Plan). IsWriting (trie_bytes c.args.exports.now) c.loop-next.out.items l) none c.loop-next.invariant))
-    c.requires numbers
+    c.requires c.read_numbers.ensures).0
+
+pub returns-clause-read_back : goal.returns-clause-read_back
+returns-clause-read_back c =
+    let none : reverse c.loop-next.pending.items ≡ [] = ap reverse (nil_from_length c.loop-next.pending.items (search rules)) in
+    (read_back c.args.exports.now c.loop-next.out.items
+    (writing_all (trie_bytes c.args.exports.now) c.loop-next.out.items (subst (λ (l : List Plan). IsWriting (trie_bytes c.args.exports.now) c.loop-next.out.items l) none c.loop-next.invariant))
+    c.requires c.read_numbers.ensures).1
