@@ -1,0 +1,4 @@
+pub mod ByteLaws
+pub mod BreakLaws
+pub mod RecordLaws
+pub mod TableLaws
