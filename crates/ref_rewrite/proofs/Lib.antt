@@ -1,0 +1,5 @@
+pub mod FollowsLaws
+pub mod JoinedLaws
+pub mod RewrittenLaws
+mod RunLaws
+mod SpanLaws
