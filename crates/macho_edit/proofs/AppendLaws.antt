@@ -1,14 +1,13 @@
 -- Appending sections and numbers one by one.
 use Rattle.std.proofs.Common.{◌≡◌, ◌≤◌, ◌<◌, ℕ, suc, ◌+◌, ◌*◌, ◌-◌, ◌/◌, List, [], ◌∷◌, ◌++◌, take, drop, length, get_or, refl, sym, ap, ap₂, ◌∙◌, arith, append_assoc, length-drop, length-append, drop-cons}
 use Rattle.std.proofs.lemmas.List.{append-nil, drop-drop, nil_from_length, take-append-drop, take_rest}
-use Rattle.dsc_base.specs.Numbers.{little_bytes}
+use Rattle.dsc_base.specs.Numbers.{little_bytes, number_at}
 use Rattle.dsc_base.proofs.NumberLaws.{length-little_bytes}
 use Rattle.macho_edit.specs.declared.segment.SegmentPlace.{SegmentPlace}
 use Rattle.macho_edit.specs.Segments.{moved_section, moved_sections, moved_fields, placed_segment}
 use Rattle.macho_image.specs.Macho.{number_of}
 use Rattle.macho_edit.specs.declared.spots.LinkSpots.{LinkSpots}
 use Rattle.macho_edit.specs.Tables.{words, with_words, indirect_words, dysymtab_words, words_for, spotted}
-use Rattle.dsc_base.specs.Numbers.{number_at}
 
 pub moved_sections_more : (p : SegmentPlace) (start n k : ℕ) (sections done whole : List ℕ) → k < n → done ++ moved_sections p start (n - k) (drop (80 * k) sections) ≡ whole
     → (done ++ moved_section p start (take 80 (drop (80 * k) sections))) ++ moved_sections p start (n - (k + 1)) (drop (80 * (k + 1)) sections) ≡ whole

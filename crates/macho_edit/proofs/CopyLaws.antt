@@ -12,7 +12,7 @@ use Rattle.macho_image.specs.Macho.{number_of, size_of, commands_in, header_size
 use Rattle.macho_image.specs.Rules.{misshapen, begins_whole, breaks_command_shape, least_size}
 use Rattle.macho_image.proofs.Splitting.{IsWholeFront, begins_whole-front, shape_inside}
 use Rattle.macho_edit.specs.declared.spots.LinkSpots.{LinkSpots}
-use Rattle.macho_edit.specs.Cached.{is_kept, moved_command, moves_behind, moved_commands, cached_commands}
+use Rattle.macho_edit.specs.Cached.{is_kept, moved_command, moves_behind, moved_commands, kept_commands}
 
 -- so many commands end at a place of the header, and those behind it are well shaped
 pub record IsAt (header : List ℕ) (number at : ℕ) : Type 0 where
@@ -26,8 +26,8 @@ rest_of header number at = filter is_kept (commands_in (number_at 4 header 16 - 
 -- so many commands are copied or left out, up to a place of the header, and so many moves are left
 pub record IsCopied (spots : LinkSpots) (header : List ℕ) (moves : List Moved) (before out : List ℕ) (left : List Moved) (count number at : ℕ) : Type 0 where
   pub here : IsAt header number at
-  pub written : out ++ concat (moved_commands spots left (rest_of header number at)) ≡ before ++ concat (cached_commands spots moves header)
-  pub counted : count + length (moved_commands spots left (rest_of header number at)) ≡ length (cached_commands spots moves header)
+  pub written : out ++ concat (moved_commands spots left (rest_of header number at)) ≡ before ++ concat (kept_commands spots moves header)
+  pub counted : count + length (moved_commands spots left (rest_of header number at)) ≡ length (kept_commands spots moves header)
   pub few : count ≤ number
 
 -- a whole command stands at a place of the header
@@ -175,7 +175,7 @@ copied_kept spots header moves before out out' left left' count count' number at
 
 -- all commands are copied or left out
 pub copied_end : (spots : LinkSpots) (header : List ℕ) (moves : List Moved) (before out : List ℕ) (left : List Moved) (count number at : ℕ) → IsCopied spots header moves before out left count number at
-    → number_at 4 header 16 ≤ number → (out ≡ before ++ concat (cached_commands spots moves header)) × (count ≡ length (cached_commands spots moves header))
+    → number_at 4 header 16 ≤ number → (out ≡ before ++ concat (kept_commands spots moves header)) × (count ≡ length (kept_commands spots moves header))
 unfolding moved_commands
 copied_end spots header moves before out left count number at copied all =
     let none : number_at 4 header 16 - number ≡ 0 = omega arith in

@@ -10,14 +10,15 @@ use Rattle.macho_image.specs.declared.form.Form.TheVariants.{Standalone, Cached}
 use Rattle.macho_image.specs.declared.place.Moved.{Moved}
 use Rattle.macho_image.specs.Records.{Img, Seg, Load, SegmentLoad}
 use Rattle.macho_image.specs.Macho.{number_of, is_segment, loads_from, loads_of, header_size, segment_load, segment_loads, segment_with, sections_in}
-use Rattle.macho_image.specs.Rules.{least, first_segment, first_crossing, says_cached, is_well_shaped, misplaced, misplaced_behind, is_good_text, is_good_linkedit, has_reserved_name, is_linkedit, is_linkedit_name, is_linkedit_segment, is_text}
+use Rattle.macho_image.specs.Rules.{first_segment, first_crossing, says_cached, is_well_shaped, misplaced, misplaced_behind, is_good_text, is_good_linkedit, has_reserved_name, is_linkedit, is_linkedit_name, is_linkedit_segment, is_text}
+use Rattle.dsc_base.specs.Refusals.{least}
 use Rattle.macho_image.specs.Breaks.{form_of, unread, IsSound}
 use Rattle.macho_image.proofs.CommandLaws.{IsWholeCommand}
 use Rattle.macho_image.proofs.Unbroken.{least_none_both}
 use Rattle.macho_edit.specs.declared.segment.SegmentPlace.{SegmentPlace}
 use Rattle.macho_edit.specs.declared.spots.LinkSpots.{LinkSpots}
 use Rattle.macho_edit.specs.Segments.{place_for}
-use Rattle.macho_edit.specs.Cached.{in_cache}
+use Rattle.macho_edit.specs.Cached.{in_cache, flags_in}
 use Rattle.macho_edit.specs.Placed.{places_of, IsSeated, AreApart}
 use Rattle.macho_edit.proofs.PlaceLaws.{place_other, place_linkedit}
 use Rattle.macho_edit.proofs.BoolLaws.{bool_cases, clash, and_parts, not_false, or_neither, when_false, lower_not}
@@ -219,6 +220,13 @@ pub cache_flags_fit : (flags : ℕ) → flags < 2 ^ 32 → in_cache flags < 2 ^ 
 cache_flags_fit flags fits = elim (bool_cases (says_cached flags)) [
   | inl clear ↦ let set = flags_set flags clear in omega (arith, set.0, set.1)
   | inr set ↦ omega (arith, fits, cond-true (says_cached flags) flags (flags + 0x8000_0000) set)
+]
+
+pub form_flags_fit : (form : Form) (flags : ℕ) → flags < 2 ^ 32 → flags_in form flags < 2 ^ 32
+form_flags_fit Cached flags fits = cache_flags_fit flags fits
+form_flags_fit Standalone flags fits = elim (bool_cases (says_cached flags)) [
+  | inl clear ↦ omega (arith, fits, cond-false (says_cached flags) (flags - 0x8000_0000) flags clear)
+  | inr set ↦ omega (arith, fits, cond-true (says_cached flags) (flags - 0x8000_0000) flags set)
 ]
 
 -- behind the first segment, the last one is `__LINKEDIT`, and no other is

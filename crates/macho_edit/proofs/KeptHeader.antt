@@ -1,4 +1,4 @@
--- The header that the cache has is its front with the commands behind it, which are whole.
+-- The header of a form is its front with the commands behind it, which are whole.
 use Rattle.std.proofs.Common.{◌≡◌, ◌≤◌, ◌<◌, inl, inr, ℕ, ◌+◌, ◌*◌, ◌%◌, ◌^◌, Bool, true, ◌&&◌, nat_eq, nat_le, nat_lt, Some, None, List, [], ◌∷◌, ◌++◌, take, drop, length, refl, sym, ap, ap₂, ◌∙◌, subst, arith, length-append}
 use Rattle.std.specs.List.{concat, AllByRecursion}
 use Rattle.std.proofs.lemmas.Bool.{cond-true, cond-false}
@@ -6,16 +6,17 @@ use Rattle.std.proofs.lemmas.Bool.Decides.{nat_tests}
 use Rattle.std.proofs.lemmas.List.{length-take-le, drop_at, append-nil}
 use Rattle.dsc_base.specs.Numbers.{number_at, put_number}
 use Rattle.dsc_base.proofs.NumberLaws.{number_at-append_left, number_at-put_same, number_at-put_other, number_at-take, length-put_number}
+use Rattle.macho_image.specs.declared.form.Form.{Form}
 use Rattle.macho_image.specs.declared.place.Moved.{Moved}
 use Rattle.macho_image.specs.Macho.{header_size, number_of, size_of, commands_in, commands_of, loads_from, loads_of}
 use Rattle.macho_image.specs.Rules.{misshapen, begins_whole, least_size, breaks_command_shape}
 use Rattle.macho_image.proofs.CommandLaws.{IsSized, IsWholeCommand, commands_in-joined}
 use Rattle.macho_edit.specs.declared.spots.LinkSpots.{LinkSpots}
-use Rattle.macho_edit.specs.Cached.{in_cache, cached_front, cached_commands, kept_header}
+use Rattle.macho_edit.specs.Cached.{flags_in, formed_front, kept_commands, formed_header}
 use Rattle.macho_edit.proofs.BoolLaws.{not_lower}
 use Rattle.macho_edit.proofs.LengthLaws.{length-spotted}
 use Rattle.macho_edit.proofs.TableLaws.{spotted_front}
-use Rattle.macho_edit.proofs.FrontLaws.{length-cached_front, cached_fit}
+use Rattle.macho_edit.proofs.FrontLaws.{length-formed_front, commands_fit}
 use Rattle.macho_edit.proofs.MovedSegments.{SameCommand, segment_same}
 use Rattle.macho_edit.proofs.MovedCommands.{IsMoved, AreMoved}
 
@@ -79,16 +80,16 @@ sized_all [] are = tt
 sized_all (c ∷ cs) are = (are.0.sized, sized_all cs are.1)
 
 -- what the three puts leave, at 16, 20 and 24
-record Puts (count size : ℕ) (front : List ℕ) : Type 0 where
-  low : (w at : ℕ) → at + w ≤ 16 → number_at w (cached_front count size front) at ≡ number_at w front at
-  counted : number_at 4 (cached_front count size front) 16 ≡ count
-  sizes : number_at 4 (cached_front count size front) 20 ≡ size
-  flags : number_at 4 (cached_front count size front) 24 ≡ in_cache (number_at 4 front 24)
+record Puts (form : Form) (count size : ℕ) (front : List ℕ) : Type 0 where
+  low : (w at : ℕ) → at + w ≤ 16 → number_at w (formed_front form count size front) at ≡ number_at w front at
+  counted : number_at 4 (formed_front form count size front) 16 ≡ count
+  sizes : number_at 4 (formed_front form count size front) 20 ≡ size
+  flags : number_at 4 (formed_front form count size front) 24 ≡ flags_in form (number_at 4 front 24)
 
-puts_leave : (count size : ℕ) (front : List ℕ) → 32 ≤ length front → count < 2 ^ 32 → size < 2 ^ 32 → in_cache (number_at 4 front 24) < 2 ^ 32 → Puts count size front
-unfolding cached_front
-puts_leave count size front len few small fits =
-    let flags : ℕ = in_cache (number_at 4 front 24) in
+puts_leave : (form : Form) (count size : ℕ) (front : List ℕ) → 32 ≤ length front → count < 2 ^ 32 → size < 2 ^ 32 → flags_in form (number_at 4 front 24) < 2 ^ 32 → Puts form count size front
+unfolding formed_front
+puts_leave form count size front len few small fits =
+    let flags : ℕ = flags_in form (number_at 4 front 24) in
     let a : List ℕ = put_number 4 front 16 count in
     let b : List ℕ = put_number 4 a 20 size in
     let la : length a ≡ length front = length-put_number 4 front 16 count (omega arith) in
@@ -100,31 +101,31 @@ puts_leave count size front len few small fits =
       flags = number_at-put_same 4 b 24 flags (omega arith) fits;
     }
 
--- what is known of the header that the cache has
-pub record IsKeptHeader (spots : LinkSpots) (moves : List Moved) (header : List ℕ) : Type 0 where
-  pub long : 32 ≤ length (kept_header spots moves header)
-  pub fits : length (kept_header spots moves header) ≤ length header
-  pub exact : header_size (kept_header spots moves header) ≡ length (kept_header spots moves header)
-  pub low : (w at : ℕ) → at + w ≤ 16 → number_at w (kept_header spots moves header) at ≡ number_at w header at
-  pub flags : number_at 4 (kept_header spots moves header) 24 ≡ in_cache (number_at 4 header 24)
-  pub commands : commands_of (kept_header spots moves header) ≡ cached_commands spots moves header
-  pub loads : loads_of (kept_header spots moves header) ≡ loads_from 32 (cached_commands spots moves header)
-  pub shape : breaks_command_shape (kept_header spots moves header) ≡ None
+-- what is known of a header of a form
+pub record IsKeptHeader (form : Form) (spots : LinkSpots) (moves : List Moved) (header : List ℕ) : Type 0 where
+  pub long : 32 ≤ length (formed_header form spots moves header)
+  pub fits : length (formed_header form spots moves header) ≤ length header
+  pub exact : header_size (formed_header form spots moves header) ≡ length (formed_header form spots moves header)
+  pub low : (w at : ℕ) → at + w ≤ 16 → number_at w (formed_header form spots moves header) at ≡ number_at w header at
+  pub flags : number_at 4 (formed_header form spots moves header) 24 ≡ flags_in form (number_at 4 header 24)
+  pub commands : commands_of (formed_header form spots moves header) ≡ kept_commands spots moves header
+  pub loads : loads_of (formed_header form spots moves header) ≡ loads_from 32 (kept_commands spots moves header)
+  pub shape : breaks_command_shape (formed_header form spots moves header) ≡ None
 
-pub kept_header_is : (spots : LinkSpots) (moves : List Moved) (header : List ℕ) → length spots.groups ≡ 6 → 32 ≤ length header → breaks_command_shape header ≡ None → length header < 2 ^ 32
-    → in_cache (number_at 4 header 24) < 2 ^ 32 → AllByRecursion IsWholeCommand (cached_commands spots moves header) → IsKeptHeader spots moves header
-unfolding kept_header
-kept_header_is spots moves header six front shape small flags whole =
+pub kept_header_is : (form : Form) (spots : LinkSpots) (moves : List Moved) (header : List ℕ) → length spots.groups ≡ 6 → 32 ≤ length header → breaks_command_shape header ≡ None → length header < 2 ^ 32
+    → flags_in form (number_at 4 header 24) < 2 ^ 32 → AllByRecursion IsWholeCommand (kept_commands spots moves header) → IsKeptHeader form spots moves header
+unfolding formed_header
+kept_header_is form spots moves header six front shape small flags whole =
     let h : List ℕ = take 32 header in
-    let cs : List (List ℕ) = cached_commands spots moves header in
+    let cs : List (List ℕ) = kept_commands spots moves header in
     let short : length h ≡ 32 = length-take-le 32 header front in
-    let fits : 32 + length (concat cs) ≤ length header = cached_fit spots moves header six front shape in
+    let fits : 32 + length (concat cs) ≤ length header = commands_fit spots moves header six front shape in
     let many : 8 * length cs ≤ length (concat cs) = many_bytes cs whole in
     let told : number_at 4 h 24 ≡ number_at 4 header 24 = number_at-take 4 32 header 24 (omega arith) in
-    let told_fits : in_cache (number_at 4 h 24) < 2 ^ 32 = subst (λ (n : ℕ). in_cache n < 2 ^ 32) (sym told) flags in
-    let puts : Puts (length cs) (length (concat cs)) h = puts_leave (length cs) (length (concat cs)) h (omega arith) (omega arith) (omega arith) told_fits in
-    let f : List ℕ = cached_front (length cs) (length (concat cs)) h in
-    let len : length f ≡ 32 = length-cached_front (length cs) (length (concat cs)) h (omega arith) ∙ short in
+    let told_fits : flags_in form (number_at 4 h 24) < 2 ^ 32 = subst (λ (n : ℕ). flags_in form n < 2 ^ 32) (sym told) flags in
+    let puts : Puts form (length cs) (length (concat cs)) h = puts_leave form (length cs) (length (concat cs)) h (omega arith) (omega arith) (omega arith) told_fits in
+    let f : List ℕ = formed_front form (length cs) (length (concat cs)) h in
+    let len : length f ≡ 32 = length-formed_front form (length cs) (length (concat cs)) h (omega arith) ∙ short in
     let all : length (f ++ concat cs) ≡ 32 + length (concat cs) = length-append f (concat cs) ∙ omega arith in
     let size : number_at 4 (f ++ concat cs) 20 ≡ length (concat cs) = number_at-append_left 4 f (concat cs) 20 (omega arith) ∙ puts.sizes in
     let exact : header_size (f ++ concat cs) ≡ length (f ++ concat cs) = omega arith in
@@ -137,7 +138,7 @@ kept_header_is spots moves header six front shape small flags whole =
       fits = omega arith;
       exact = exact;
       low = λ w at near. number_at-append_left w f (concat cs) at (omega arith) ∙ (puts.low w at near ∙ number_at-take w 32 header at (omega arith));
-      flags = number_at-append_left 4 f (concat cs) 24 (omega arith) ∙ (puts.flags ∙ ap in_cache told);
+      flags = number_at-append_left 4 f (concat cs) 24 (omega arith) ∙ (puts.flags ∙ ap (flags_in form) told);
       commands = commands;
       loads = ap (λ (ds : List (List ℕ)). loads_from 32 ds) commands;
       shape = cond-false (nat_lt (length (f ++ concat cs)) (header_size (f ++ concat cs))) (Some 20) (misshapen (number_at 4 (f ++ concat cs) 16) 32 (drop 32 (f ++ concat cs))) (not_lower (length (f ++ concat cs)) (header_size (f ++ concat cs)) (omega arith))

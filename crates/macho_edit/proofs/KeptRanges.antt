@@ -1,4 +1,4 @@
--- Rules 14 and 17: no command of the cache names relocations, or a range outside the linkedit.
+-- Rules 14 and 17: no command that is moved names relocations, or a range outside the linkedit.
 use Rattle.std.proofs.Common.{◌≡◌, ◌≤◌, ◌<◌, inl, inr, ℕ, ◌+◌, ◌*◌, ◌/◌, Bool, true, false, not, ◌&&◌, ◌||◌, nat_eq, nat_le, nat_lt, if◌then◌else◌, None, List, [], ◌∷◌, refl, ap, ap₂, ◌∙◌, arith}
 use Rattle.std.proofs.lemmas.Bool.{cond-false, eqb-true}
 use Rattle.std.proofs.lemmas.Bool.Decides.{nat_tests}
@@ -16,7 +16,7 @@ use Rattle.macho_edit.proofs.MovedSegments.{SameCommand}
 use Rattle.macho_edit.proofs.MovedCommands.{IsMoved, AreMoved}
 use Rattle.macho_edit.proofs.KeptHeader.{moved_same}
 use Rattle.macho_edit.proofs.KeptRules.{NonePass, none_first}
-use Rattle.macho_edit.proofs.KeptTables.{AreSpots, InfoIs, info_is, SymtabIs, symtab_is, DysymtabIs, dysymtab_is, DataIs, data_is}
+use Rattle.macho_edit.proofs.KeptTables.{AreSpots, AllLinked, InfoIs, info_is, SymtabIs, symtab_is, DysymtabIs, dysymtab_is, DataIs, data_is}
 
 -- a test that each moved command fails
 pub none_passes : (spots : LinkSpots) (p : List ℕ → Bool) (cs ds : List (List ℕ)) → ((c d : List ℕ) → IsMoved spots c d → p d ≡ false) → AreMoved spots cs ds → NonePass p ds
@@ -84,25 +84,25 @@ one_times n = omega arith
 five : (a b c d e : Bool) → a ≡ false → b ≡ false → c ≡ false → d ≡ false → e ≡ false → (a || (b || (c || (d || e)))) ≡ false
 five a b c d e p q r s t = ap (λ (x : Bool). x || (b || (c || (d || e)))) p ∙ (ap (λ (x : Bool). x || (c || (d || e))) q ∙ (ap (λ (x : Bool). x || (d || e)) r ∙ (ap (λ (x : Bool). x || e) s ∙ t)))
 
-info_inside : (spots : LinkSpots) (d : List ℕ) → AreSpots spots → InfoIs spots d → info_leaves spots.linkedit.file (spots.linkedit.file + spots.filesize) d ≡ false
-info_inside spots d are is =
+info_inside : (spots : LinkSpots) (d : List ℕ) → AllLinked spots → InfoIs spots d → info_leaves spots.linkedit.file (spots.linkedit.file + spots.filesize) d ≡ false
+info_inside spots d linked is =
     let low : ℕ = spots.linkedit.file in
     let high : ℕ = spots.linkedit.file + spots.filesize in
     five (leaves low high d 1 8 12) (leaves low high d 1 16 20) (leaves low high d 1 24 28) (leaves low high d 1 32 36) (leaves low high d 1 40 44)
-    (empty_leaves low high d 8 12 is.rebase_size)
-    (span_leaves spots spots.bind d 1 16 20 spots.bind.len are.linked.bind is.bind is.bind_size (one_times spots.bind.len))
+    (span_leaves spots spots.rebase d 1 8 12 spots.rebase.len linked.rebase is.rebase is.rebase_size (one_times spots.rebase.len))
+    (span_leaves spots spots.bind d 1 16 20 spots.bind.len linked.others.bind is.bind is.bind_size (one_times spots.bind.len))
     (empty_leaves low high d 24 28 is.weak_size)
-    (span_leaves spots spots.lazy d 1 32 36 spots.lazy.len are.linked.lazy is.lazy is.lazy_size (one_times spots.lazy.len))
-    (span_leaves spots spots.exports d 1 40 44 spots.exports.len are.linked.exports is.exports is.exports_size (one_times spots.exports.len))
+    (span_leaves spots spots.lazy d 1 32 36 spots.lazy.len linked.others.lazy is.lazy is.lazy_size (one_times spots.lazy.len))
+    (span_leaves spots spots.exports d 1 40 44 spots.exports.len linked.others.exports is.exports is.exports_size (one_times spots.exports.len))
 
-symtab_inside : (spots : LinkSpots) (d : List ℕ) → AreSpots spots → SymtabIs spots d
+symtab_inside : (spots : LinkSpots) (d : List ℕ) → AreSpots spots → AllLinked spots → SymtabIs spots d
     → (leaves spots.linkedit.file (spots.linkedit.file + spots.filesize) d 16 8 12 || leaves spots.linkedit.file (spots.linkedit.file + spots.filesize) d 1 16 20) ≡ false
-symtab_inside spots d are is =
+symtab_inside spots d are linked is =
     let low : ℕ = spots.linkedit.file in
     let high : ℕ = spots.linkedit.file + spots.filesize in
     let entries : 16 * (spots.symbols.len / 16) ≡ spots.symbols.len = omega (arith, are.whole_symbols) in
-    ap (λ (b : Bool). b || leaves low high d 1 16 20) (span_leaves spots spots.symbols d 16 8 12 (spots.symbols.len / 16) are.linked.symbols is.symbols is.count entries)
-    ∙ span_leaves spots spots.strings d 1 16 20 spots.strings.len are.linked.strings is.strings is.strings_size (one_times spots.strings.len)
+    ap (λ (b : Bool). b || leaves low high d 1 16 20) (span_leaves spots spots.symbols d 16 8 12 (spots.symbols.len / 16) linked.others.symbols is.symbols is.count entries)
+    ∙ span_leaves spots spots.strings d 1 16 20 spots.strings.len linked.others.strings is.strings is.strings_size (one_times spots.strings.len)
 
 -- whether a command of a number names a range outside, by the tests of the four kinds that name ranges
 abbrev outside_at : ℕ → Bool → Bool → Bool → Bool → Bool
@@ -121,26 +121,26 @@ kept_other n kept = grind (arith, nat_tests)
 no_stream : (a b c : Bool) → a ≡ false → b ≡ false → c ≡ false → (a || (b || c)) ≡ false
 no_stream a b c p q r = ap (λ (x : Bool). x || (b || c)) p ∙ (ap (λ (x : Bool). x || c) q ∙ r)
 
-inside_moved : (spots : LinkSpots) (c d : List ℕ) → AreSpots spots → IsMoved spots c d → names_outside spots.linkedit.file (spots.linkedit.file + spots.filesize) d ≡ false
-inside_moved spots c d are is =
+inside_moved : (spots : LinkSpots) (c d : List ℕ) → AreSpots spots → AllLinked spots → IsMoved spots c d → names_outside spots.linkedit.file (spots.linkedit.file + spots.filesize) d ≡ false
+inside_moved spots c d are linked is =
     let low : ℕ = spots.linkedit.file in
     let high : ℕ = spots.linkedit.file + spots.filesize in
     let same : SameCommand c d = moved_same spots c d are.six is in
     let number : (k : ℕ) → number_of c ≡ k → number_of d ≡ k = λ k eq. same.number ∙ eq in
     elim (table_kind (number_of c)) [
-      | Info (inl k) ↦ outside_is low high 0x22 d (number 0x22 k) ∙ info_inside spots d are (info_is spots c d are is (ap is_segment k) (ap (λ (n : ℕ). words_for spots n) k))
-      | Info (inr k) ↦ outside_is low high 0x8000_0022 d (number 0x8000_0022 k) ∙ info_inside spots d are (info_is spots c d are is (ap is_segment k) (ap (λ (n : ℕ). words_for spots n) k))
-      | Symtab k ↦ outside_is low high 2 d (number 2 k) ∙ symtab_inside spots d are (symtab_is spots c d are is (ap is_segment k) (ap (λ (n : ℕ). words_for spots n) k))
+      | Info (inl k) ↦ outside_is low high 0x22 d (number 0x22 k) ∙ info_inside spots d linked (info_is spots c d are is (ap is_segment k) (ap (λ (n : ℕ). words_for spots n) k))
+      | Info (inr k) ↦ outside_is low high 0x8000_0022 d (number 0x8000_0022 k) ∙ info_inside spots d linked (info_is spots c d are is (ap is_segment k) (ap (λ (n : ℕ). words_for spots n) k))
+      | Symtab k ↦ outside_is low high 2 d (number 2 k) ∙ symtab_inside spots d are linked (symtab_is spots c d are is (ap is_segment k) (ap (λ (n : ℕ). words_for spots n) k))
       | Dysymtab k ↦
           let fields : DysymtabIs spots d = dysymtab_is spots c d are is (ap is_segment k) (ap (λ (n : ℕ). words_for spots n) k) in
           let entries : 4 * (spots.indirect.len / 4) ≡ spots.indirect.len = omega (arith, are.whole_indirect) in
-          outside_is low high 0xB d (number 0xB k) ∙ span_leaves spots spots.indirect d 4 56 60 (spots.indirect.len / 4) are.linked.indirect fields.indirect fields.count entries
+          outside_is low high 0xB d (number 0xB k) ∙ span_leaves spots spots.indirect d 4 56 60 (spots.indirect.len / 4) linked.others.indirect fields.indirect fields.count entries
       | Starts k ↦
           let fields : DataIs spots.function_starts d = data_is spots spots.function_starts c d are are.low.function_starts is (ap is_segment k) (ap (λ (n : ℕ). words_for spots n) k) in
-          outside_is low high 0x26 d (number 0x26 k) ∙ span_leaves spots spots.function_starts d 1 8 12 spots.function_starts.len are.linked.function_starts fields.start fields.size (one_times spots.function_starts.len)
+          outside_is low high 0x26 d (number 0x26 k) ∙ span_leaves spots spots.function_starts d 1 8 12 spots.function_starts.len linked.others.function_starts fields.start fields.size (one_times spots.function_starts.len)
       | InCode k ↦
           let fields : DataIs spots.data_in_code d = data_is spots spots.data_in_code c d are are.low.data_in_code is (ap is_segment k) (ap (λ (n : ℕ). words_for spots n) k) in
-          outside_is low high 0x29 d (number 0x29 k) ∙ span_leaves spots spots.data_in_code d 1 8 12 spots.data_in_code.len are.linked.data_in_code fields.start fields.size (one_times spots.data_in_code.len)
+          outside_is low high 0x29 d (number 0x29 k) ∙ span_leaves spots spots.data_in_code d 1 8 12 spots.data_in_code.len linked.others.data_in_code fields.start fields.size (one_times spots.data_in_code.len)
       | Other a b e f g ↦
           let split : is_split_info (number_of c) ≡ false = kept_other (number_of c) is.kept in
           let n : ℕ = number_of c in
@@ -149,8 +149,8 @@ inside_moved spots c d are is =
           ∙ cond-false (is_data_stream n) _ _ (no_stream (is_split_info n) (is_function_starts n) (is_data_in_code n) split f g))))
     ]
 
-pub ranges_none : (spots : LinkSpots) (at : ℕ) (cs ds : List (List ℕ)) → AreSpots spots → AreMoved spots cs ds
+pub ranges_none : (spots : LinkSpots) (at : ℕ) (cs ds : List (List ℕ)) → AreSpots spots → AllLinked spots → AreMoved spots cs ds
     → first_load (λ l. names_outside spots.linkedit.file (spots.linkedit.file + spots.filesize) l.bytes) (loads_from at ds) ≡ None
-ranges_none spots at cs ds are moved =
+ranges_none spots at cs ds are linked moved =
     none_first (λ d. names_outside spots.linkedit.file (spots.linkedit.file + spots.filesize) d) at ds
-    (none_passes spots (λ d. names_outside spots.linkedit.file (spots.linkedit.file + spots.filesize) d) cs ds (λ c d is. inside_moved spots c d are is) moved)
+    (none_passes spots (λ d. names_outside spots.linkedit.file (spots.linkedit.file + spots.filesize) d) cs ds (λ c d is. inside_moved spots c d are linked is) moved)

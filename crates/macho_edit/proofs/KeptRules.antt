@@ -7,7 +7,8 @@ use Rattle.std.proofs.lemmas.Bool.{cond-true, cond-false, eqb-true}
 use Rattle.std.proofs.lemmas.Bool.Decides.{nat_tests}
 use Rattle.macho_image.specs.Records.{Load}
 use Rattle.macho_image.specs.Macho.{number_of, is_install_name, is_dylib, loads_from, dylib_name}
-use Rattle.macho_image.specs.Rules.{least, first_load, second_of, second_of_any, is_of_kind, once_kinds, breaks_unknown_command, breaks_command_twice, breaks_no_install_name, breaks_name_text, breaks_unsafe_name, is_known, is_plain_name, is_safe_path}
+use Rattle.macho_image.specs.Rules.{first_load, second_of, second_of_any, is_of_kind, once_kinds, breaks_unknown_command, breaks_command_twice, breaks_no_install_name, breaks_name_text, breaks_unsafe_name, is_known, is_plain_name, is_safe_path}
+use Rattle.dsc_base.specs.Refusals.{least}
 use Rattle.macho_image.proofs.Unbroken.{least_none_both}
 use Rattle.macho_edit.specs.declared.spots.LinkSpots.{LinkSpots}
 use Rattle.macho_edit.specs.Tables.{with_words, spotted}

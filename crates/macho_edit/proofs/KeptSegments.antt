@@ -7,7 +7,8 @@ use Rattle.std.proofs.lemmas.Bool.{cond-true, cond-false, eqb-true, eq-eqb}
 use Rattle.std.proofs.lemmas.List.{length-map, nil_from_length}
 use Rattle.std.specs.Cmp.Lexicographic.{same_text}
 use Rattle.macho_image.specs.Records.{Load, SectionLoad, SegmentLoad}
-use Rattle.macho_image.specs.Rules.{least, first_segment, is_well_shaped, first_crossing, shares_address, misplaced, misplaced_behind, is_good_text, is_good_linkedit, has_reserved_name, is_text, is_linkedit, is_linkedit_name, same_bytes, first_load, names_outside, outside_of, breaks_segment_shape, breaks_segment_place, starts_elsewhere, breaks_segment_prot, breaks_section_shape, first_crowded, sections_stand, sections_start, breaks_interposing, section_type}
+use Rattle.macho_image.specs.Rules.{first_segment, is_well_shaped, first_crossing, shares_address, misplaced, misplaced_behind, is_good_text, is_good_linkedit, has_reserved_name, is_text, is_linkedit, is_linkedit_name, same_bytes, first_load, names_outside, outside_of, breaks_segment_shape, breaks_segment_place, starts_elsewhere, breaks_segment_prot, breaks_section_shape, first_crowded, sections_stand, sections_start, breaks_interposing, section_type}
+use Rattle.dsc_base.specs.Refusals.{least}
 use Rattle.macho_image.proofs.Unbroken.{least_none_both}
 use Rattle.macho_edit.specs.declared.segment.SegmentPlace.{SegmentPlace}
 use Rattle.macho_edit.specs.Placed.{AreApart}

@@ -176,7 +176,7 @@ streams_are spots b cs ds are moved =
     let entries : 16 * (spots.symbols.len / 16) ≡ spots.symbols.len = omega (arith, are.whole_symbols) in
     let quarters : 4 * (spots.indirect.len / 4) ≡ spots.indirect.len = omega (arith, are.whole_indirect) in
     λ i. record {
-      rebase = (no_part b info info' 8 12 (found_as info info' (λ c d is. is.rebase_size) infos)) i;
+      rebase = (named_part b spots.rebase info info' 1 8 12 (found_as info info' (λ c d is. (is.rebase, ap (λ (n : ℕ). 1 * n) is.rebase_size ∙ one_times spots.rebase.len)) infos)) i;
       bind = (named_part b spots.bind info info' 1 16 20 (found_as info info' (λ c d is. (is.bind, ap (λ (n : ℕ). 1 * n) is.bind_size ∙ one_times spots.bind.len)) infos)) i;
       weak = (no_part b info info' 24 28 (found_as info info' (λ c d is. is.weak_size) infos)) i;
       lazy = (named_part b spots.lazy info info' 1 32 36 (found_as info info' (λ c d is. (is.lazy, ap (λ (n : ℕ). 1 * n) is.lazy_size ∙ one_times spots.lazy.len)) infos)) i;

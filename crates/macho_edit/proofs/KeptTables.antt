@@ -7,7 +7,7 @@ use Rattle.dsc_base.specs.declared.fault.Span.{Span}
 use Rattle.macho_image.specs.Macho.{number_of, is_segment}
 use Rattle.macho_edit.specs.declared.spots.LinkSpots.{LinkSpots}
 use Rattle.macho_edit.specs.Conditions.{IsLow, AreLow}
-use Rattle.macho_edit.specs.Placed.{AreLinked}
+use Rattle.macho_edit.specs.Placed.{IsLinked, AreLinked}
 use Rattle.macho_edit.specs.Tables.{words_for, with_words, spotted, start_of, info_words, symtab_words, dysymtab_words, indirect_words, data_words}
 use Rattle.macho_edit.proofs.BoolLaws.{clash}
 use Rattle.macho_edit.proofs.LengthLaws.{words_fit}
@@ -17,11 +17,15 @@ use Rattle.macho_edit.proofs.MovedCommands.{IsMoved}
 -- what is known of spots that go into a header
 pub record AreSpots (spots : LinkSpots) : Type 0 where
   pub low : AreLow spots
-  pub linked : AreLinked spots
   pub six : length spots.groups ≡ 6
   pub narrow : (k : ℕ) → get_or spots.groups k 0 < 2 ^ 32
   pub whole_symbols : spots.symbols.len % 16 ≡ 0
   pub whole_indirect : spots.indirect.len % 4 ≡ 0
+
+-- all spans that a header names lie in the linkedit
+pub record AllLinked (spots : LinkSpots) : Type 0 where
+  pub rebase : IsLinked spots spots.rebase
+  pub others : AreLinked spots
 
 -- a number that a moved command has, by its index among those that it got
 value_at : (spots : LinkSpots) (c d ns : List ℕ) (m i v at : ℕ) → AreSpots spots → IsMoved spots c d → is_segment (number_of c) ≡ false → words_for spots (number_of c) ≡ ns
@@ -38,8 +42,8 @@ value_at spots c d ns m i v at are is other words len lt value fits place = elim
 
 -- dyld_info_command
 pub record InfoIs (spots : LinkSpots) (d : List ℕ) : Type 0 where
-  pub rebase : number_at 4 d 8 ≡ 0
-  pub rebase_size : number_at 4 d 12 ≡ 0
+  pub rebase : number_at 4 d 8 ≡ start_of spots.rebase
+  pub rebase_size : number_at 4 d 12 ≡ spots.rebase.len
   pub bind : number_at 4 d 16 ≡ start_of spots.bind
   pub bind_size : number_at 4 d 20 ≡ spots.bind.len
   pub weak : number_at 4 d 24 ≡ 0
@@ -54,12 +58,13 @@ info_is spots c d are is other words =
     let at : (i v place : ℕ) → i < 10 → get_or (info_words spots) i 0 ≡ v → v < 2 ^ 32 → place ≡ 8 + 4 * i → number_at 4 d place ≡ v =
     λ i v place lt value fits eq. value_at spots c d (info_words spots) 10 i v place are is other words refl lt value fits eq in
     let low : AreLow spots = are.low in
+    let a : spots.rebase.at + spots.rebase.len < 2 ^ 32 = low.rebase in
     let b : spots.bind.at + spots.bind.len < 2 ^ 32 = low.bind in
     let e : spots.lazy.at + spots.lazy.len < 2 ^ 32 = low.lazy in
     let f : spots.exports.at + spots.exports.len < 2 ^ 32 = low.exports in
     record {
-      rebase = at 0 0 8 (omega arith) refl (omega arith) refl;
-      rebase_size = at 1 0 12 (omega arith) refl (omega arith) refl;
+      rebase = at 0 (start_of spots.rebase) 8 (omega arith) refl (start_low spots.rebase a) refl;
+      rebase_size = at 1 spots.rebase.len 12 (omega arith) refl (omega arith) refl;
       bind = at 2 (start_of spots.bind) 16 (omega arith) refl (start_low spots.bind b) refl;
       bind_size = at 3 spots.bind.len 20 (omega arith) refl (omega arith) refl;
       weak = at 4 0 24 (omega arith) refl (omega arith) refl;

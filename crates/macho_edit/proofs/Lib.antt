@@ -3,6 +3,7 @@ pub mod CopyLaws
 pub mod LengthLaws
 pub mod FrontLaws
 pub mod SoundLaws
+pub mod Spelt
 pub mod TableLaws
 pub mod MovedSections
 pub mod MovedSegments
@@ -19,4 +20,5 @@ pub mod Grounds
 pub mod PlaceLaws
 pub mod KeptImage
 pub mod Reread
+pub mod OnlyMoved
 pub mod PlacedLaws

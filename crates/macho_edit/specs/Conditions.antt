@@ -1,5 +1,5 @@
 -- What a header needs to be written: moves and spots that fit its image.
-use Rattle.std.specs.Prelude.{◌≡◌, ◌<◌, ℕ, ◌+◌, ◌%◌, ◌^◌, false, List, length, get_or}
+use Rattle.std.specs.Prelude.{◌≡◌, ◌<◌, ℕ, ◌+◌, ◌%◌, ◌^◌, false, List, length, get_or, All}
 use Rattle.dsc_base.specs.declared.fault.Span.{Span}
 use Rattle.macho_image.specs.declared.place.Moved.{Moved}
 use Rattle.macho_image.specs.Records.{Seg, Img}
@@ -40,3 +40,10 @@ pub record FitFields (file : ℕ) (groups : List ℕ) : Type 0 where
   pub offset : file < 2 ^ 64
   pub six : length groups ≡ 6
   pub narrow : (k : ℕ) → get_or groups k 0 < 2 ^ 32
+
+-- and those of the moves and of other fields: the addresses, and the sizes of the linkedit
+pub record FitPlaces (moves : List Moved) (spots : LinkSpots) : Type 0 where
+  pub moved : All (λ m. m.address < 2 ^ 64) moves
+  pub address : spots.linkedit.address < 2 ^ 64
+  pub vmsize : spots.vmsize < 2 ^ 64
+  pub filesize : spots.filesize < 2 ^ 64

@@ -22,10 +22,10 @@ start_of s = if nat_eq s.len 0 then 0 else s.at
 abbrev pub data_words : Span → List ℕ
 data_words s = start_of s ∷ s.len ∷ []
 
--- dyld_info_command: rebase, bind, weak_bind, lazy_bind and export, each an offset and a size; the cache has no rebases and weak binds, which are done
+-- dyld_info_command: rebase, bind, weak_bind, lazy_bind and export, each an offset and a size; there are no weak binds
 abbrev pub info_words : LinkSpots → List ℕ
 info_words spots =
-    0 ∷ 0 ∷ start_of spots.bind ∷ spots.bind.len ∷ 0 ∷ 0
+    start_of spots.rebase ∷ spots.rebase.len ∷ start_of spots.bind ∷ spots.bind.len ∷ 0 ∷ 0
     ∷ start_of spots.lazy ∷ spots.lazy.len ∷ start_of spots.exports ∷ spots.exports.len ∷ []
 
 -- symtab_command: the offset and the number of nlist_64, and the offset and the size of the strings

@@ -31,7 +31,7 @@ fn info_words(spots: &LinkSpots) -> [u32; 10]
     requires { AreLow spots.now }
     ensures { result ≡ info_words spots.now }
 {
-    let [rebase, rebase_size] = [0, 0];
+    let [rebase, rebase_size] = data_words(&spots.rebase);
     let [bind, bind_size] = data_words(&spots.bind);
     let [weak, weak_size] = [0, 0];
     let [lazy, lazy_size] = data_words(&spots.lazy);

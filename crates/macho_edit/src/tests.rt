@@ -1,23 +1,27 @@
-// Two dylibs and the headers that they have in a cache, made by hand.
+// Two dylibs and the headers that they have in a cache, and from there in files of their own, made by hand.
 ghost use Rattle.std.specs.Prelude.{◌≡◌, true, length};
 ghost use Rattle.macho_edit.specs.Conditions.{IsLow, AreLow, EndLow, CanMove};
 
 mod cases;
 
 use super::*;
-use cases::CASES;
+use cases::{CASES, Case};
 use dsc_base::{Span, put_u32};
 use macho_image::{Form, Image, Moved, Moves, Segment, read_image};
 use std::alloc::Global;
 use std::test::*;
 
-fn bytes_with(alloc: Global, len: usize, numbers: &[(usize, u32)]) -> Result<Vec<u8>, Fail> {
-    let mut bytes = vec![in alloc; 0u8; len]?;
+fn put_all(bytes: &mut [u8], numbers: &[(usize, u32)]) {
     for (place, value) in numbers {
         if *place < bytes.len() && bytes.len() - *place >= 4 {
-            put_u32(&mut bytes, *place, *value);
+            put_u32(bytes, *place, *value);
         }
     }
+}
+
+fn bytes_with(alloc: Global, len: usize, numbers: &[(usize, u32)]) -> Result<Vec<u8>, Fail> {
+    let mut bytes = vec![in alloc; 0u8; len]?;
+    put_all(&mut bytes, numbers);
     Ok(bytes)
 }
 
@@ -66,13 +70,32 @@ fn can_move(image: &Image<'_>, moves: &Moves, spots: &LinkSpots) -> bool
         && spots.indirect.len % 4 == 0
 }
 
-// A cache with nothing but a header at a place.
-fn cache_with(alloc: Global, len: usize, place: usize, header: &[u8]) -> Result<Vec<u8>, Fail> {
-    let mut cache = vec![in alloc; 0u8; len]?;
-    if place <= cache.len() && header.len() <= cache.len() - place {
-        cache[place..place + header.len()].copy_from_slice(header);
+// A file with nothing but a header at a place.
+fn file_with(alloc: Global, len: usize, place: usize, header: &[u8]) -> Result<Vec<u8>, Fail> {
+    let mut file = vec![in alloc; 0u8; len]?;
+    if place <= file.len() && header.len() <= file.len() - place {
+        file[place..place + header.len()].copy_from_slice(header);
     }
-    Ok(cache)
+    Ok(file)
+}
+
+// The header in a file of its own, which is as it should be.
+fn alone_with(alloc: Global, moved: &Image<'_>, case: &Case) -> Result<Vec<u8>, Fail> {
+    let moves = Moves {
+        segments: case.alone_moves.to_vec(alloc)?,
+    };
+    if !can_move(moved, &moves, &case.alone_spots) {
+        return Err("the segments can move once more".into());
+    }
+    let header = standalone_header(alloc, moved, &moves, &case.alone_spots)
+        .ok()
+        .ok_or("memory is left")?;
+    let mut wanted = bytes_with(alloc, case.kept_len, case.header)?;
+    put_all(&mut wanted, case.alone);
+    if header.as_slice() != wanted.as_slice() {
+        return Err("another header in a file of its own".into());
+    }
+    Ok(header)
 }
 
 #[test]
@@ -95,13 +118,23 @@ fn headers(rt: HostRuntime) -> Result<(), Fail> {
         let wanted = bytes_with(alloc, case.header_len, case.header)?;
         assert_eq!(rt; header.as_slice(), wanted.as_slice());
         let place = case.moves.first().ok_or("there is a segment")?.file;
-        let cache = cache_with(alloc, case.cache_len, place as usize, &header)?;
+        let cache = file_with(alloc, case.cache_len, place as usize, &header)?;
         let moved = read_image(alloc, &cache, place, Form::Cached)
             .ok()
             .ok_or("the moved dylib is read")?;
         assert_eq!(rt; moved.header.len(), case.kept_len);
         let first = moved.sections.first().ok_or("there is a section")?;
         assert_eq!(rt; first.addr, case.first_section);
+        let alone = alone_with(alloc, &moved, case)?;
+        let file = file_with(alloc, case.alone_len, 0, &alone)?;
+        let own = read_image(alloc, &file, 0, Form::Standalone)
+            .ok()
+            .ok_or("the dylib of its own is read")?;
+        assert_eq!(rt; own.header.len(), case.kept_len);
+        assert_eq!(rt;
+            own.streams.rebase.len() as u64,
+            case.alone_spots.rebase.len
+        );
     }
     Ok(())
 }

@@ -1,8 +1,8 @@
 use Rattle.std.proofs.Common.{◌≡◌, ◌<◌, ◌+◌, ◌-◌, ◌≤◌, take, drop, sym, ap, ◌∙◌, ℕ, List, arith, subst}
 use Rattle.dsc_base.specs.Numbers.{number_at}
 use Rattle.macho_edit.proofs.CopyLaws.{IsCommand, command_here, copied_start, copied_dropped, copied_kept, copied_end, part_size, part_least}
-use Rattle.macho_edit.proofs.cached.append_commands.Goals.{then-is_kept+in_ok-left, else-is_kept}
-use Rattle.macho_edit.proofs.cached.append_commands.Goals as goal
+use Rattle.macho_edit.proofs.header.append_commands.Goals.{then-is_kept+in_ok-left, else-is_kept}
+use Rattle.macho_edit.proofs.header.append_commands.Goals as goal
 
 pub loop-number-init : goal.loop-number-init
 loop-number-init c = copied_start c.args.spots.now c.args.header.now c.args.moves.now c.args.out.now.items c.requires.front c.requires.shape

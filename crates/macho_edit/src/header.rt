@@ -1,13 +1,13 @@
-// The header of an image as the shared cache has it. Names are those of mach-o/loader.h.
-ghost use Rattle.std.specs.Prelude.{◌≡◌, ◌≤◌, ◌<◌, ◌+◌, ◌-◌, ◌^◌, ◌++◌, None, true, length, OnOk, IfOk};
+// The header of an image that goes to the shared cache or to a file of its own. Names are those of mach-o/loader.h.
+ghost use Rattle.std.specs.Prelude.{◌≡◌, ◌≤◌, ◌<◌, ◌+◌, ◌-◌, ◌^◌, ◌++◌, None, true, length, All, OnOk, IfOk};
 ghost use Rattle.std.specs.List.{concat};
 ghost use Rattle.dsc_base.specs.Numbers.{number_at};
 ghost use Rattle.dsc_base.specs.Region.{padded};
 ghost use Rattle.macho_image.specs.Macho.{header_size, number_of, is_segment};
 ghost use Rattle.macho_image.specs.Rules.{breaks_command_shape, least_size};
-ghost use Rattle.macho_edit.specs.Cached.{is_kept, moved_command, moves_behind, cached_commands, in_cache, cached_front, kept_header, cached_bytes};
+ghost use Rattle.macho_edit.specs.Cached.{is_kept, moved_command, moves_behind, kept_commands, flags_in, formed_front, formed_header, unrebased, cached_bytes, standalone_bytes};
 ghost use Rattle.macho_edit.specs.Conditions.{AreLow, CanMove, FitFields};
-ghost use Rattle.macho_edit.specs.MovedImage.{Rereads};
+ghost use Rattle.macho_edit.specs.MovedImage.{Rereads, RereadsAlone, SpellsMoved, SpellsAlone};
 
 use crate::LinkSpots;
 use crate::numbers::{
@@ -16,11 +16,11 @@ use crate::numbers::{
 };
 use crate::segment::append_segment;
 use crate::tables::append_spotted;
-use dsc_base::{NoMemory, get_u32, put_u32};
-use macho_image::{Image, Moved, Moves};
+use dsc_base::{NoMemory, Span, get_u32, put_u32};
+use macho_image::{Form, Image, Moved, Moves};
 use std::alloc::Global;
 
-/// Whether the cache has a command, and doesn't leave it out.
+/// Whether a command isn't left out.
 fn is_kept(command: &[u8]) -> bool
     requires { 8 ≤ length command.now }
     ensures { result ≡ is_kept command.now }
@@ -57,7 +57,7 @@ fn append_command<'m>(
     }
 }
 
-/// Appends the commands that the cache has, of those of a header. Gives how many they are.
+/// Appends the commands that aren't left out, of those of a header. Gives how many they are.
 fn append_commands(
     out: &mut Vec<u8>,
     header: &[u8],
@@ -67,8 +67,8 @@ fn append_commands(
     requires low { AreLow spots.now }
     requires front { 32 ≤ length header.now }
     requires shape { breaks_command_shape header.now ≡ None }
-    ensures appended { OnOk result (out.new.items ≡ out.old.items ++ concat (cached_commands spots.now moves.now header.now)) }
-    ensures counted { IfOk result (λ n. n ≡ length (cached_commands spots.now moves.now header.now)) }
+    ensures appended { OnOk result (out.new.items ≡ out.old.items ++ concat (kept_commands spots.now moves.now header.now)) }
+    ensures counted { IfOk result (λ n. n ≡ length (kept_commands spots.now moves.now header.now)) }
 {
     let mut left = moves;
     let mut count = 0;
@@ -85,44 +85,48 @@ fn append_commands(
     Ok(count)
 }
 
-/// Sets the number of commands, their size in bytes, and the flag of the cache.
-#[tactic(auto, unfolding(crate::specs::Cached::cached_front))]
-fn set_front(header: &mut [u8], count: u32, size: u32)
+/// Sets the number of commands, their size in bytes, and the flag of the form.
+#[tactic(auto, unfolding(crate::specs::Cached::formed_front))]
+fn set_front(header: &mut [u8], count: u32, size: u32, form: Form)
     requires { 32 ≤ length header.old }
-    ensures { header.new ≡ cached_front count size header.old }
+    ensures { header.new ≡ formed_front form count size header.old }
 {
     let flags = get_u32(header, 24);
     put_u32(header, 16, count);
     put_u32(header, 20, size);
-    put_u32(header, 24, with_cache_flag(flags));
+    put_u32(header, 24, flags_in(form, flags));
 }
 
-/// Flags that say that the image is in a cache.
-fn with_cache_flag(flags: u32) -> u32
-    ensures { result ≡ in_cache flags }
+/// Flags that say in which form the image is.
+fn flags_in(form: Form, flags: u32) -> u32
+    ensures { result ≡ flags_in form flags }
 {
-    flags | MH_DYLIB_IN_CACHE
+    match form {
+        Form::Cached => flags | MH_DYLIB_IN_CACHE,
+        Form::Standalone => flags & !MH_DYLIB_IN_CACHE,
+    }
 }
 
-/// The cached form of a header with its commands, and zeros in the room of those that are left out.
+/// The header of a form with its commands, and zeros in the room of those that are left out.
 fn write_header(
     alloc: Global,
     header: &[u8],
     moves: &[Moved],
     spots: &LinkSpots,
+    form: Form,
 ) -> Result<Vec<u8>, NoMemory>
     requires low { AreLow spots.now }
     requires front { 32 ≤ length header.now }
     requires whole { length header.now ≡ header_size header.now }
     requires shape { breaks_command_shape header.now ≡ None }
-    ensures bytes { IfOk result (λ v. v.items ≡ padded (length header.now) (kept_header spots.now moves.now header.now)) }
+    ensures bytes { IfOk result (λ v. v.items ≡ padded (length header.now) (formed_header form spots.now moves.now header.now)) }
     ensures size { IfOk result (λ v. length v.items ≡ length header.now) }
 {
     let mut out = Vec::with_capacity(alloc, header.len())?;
     out.extend_from_slice(&header[..32])?;
     let count = append_commands(&mut out, header, moves, spots)?;
     let size = (out.len() - 32) as u32;
-    set_front(&mut out, count, size);
+    set_front(&mut out, count, size, form);
     out.resize(header.len(), 0)?;
     Ok(out)
 }
@@ -133,6 +137,34 @@ fn fit_fields(file: u64, groups: [u32; 6], header: &[u8])
     ensures flags { number_at 4 header.now 24 < 2 ^ 32 }
 {
     let _ = (file, groups, header.len());
+}
+
+/// Does nothing; its contract tells what the types of a move and of sizes say.
+fn fit_sizes(moved: Moved, vmsize: u64, filesize: u64)
+    ensures address { moved.address < 2 ^ 64 }
+    ensures vmsize { vmsize < 2 ^ 64 }
+    ensures filesize { filesize < 2 ^ 64 }
+{
+    let _ = (moved.address, vmsize, filesize);
+}
+
+/// Does nothing; its contract tells what the type of the moves says of each.
+fn fit_moves(moves: &[Moved])
+    ensures { All (λ m. m.address < 2 ^ 64) moves.now }
+{
+    for moved in moves {
+        fit_sizes(*moved, 0, 0);
+    }
+}
+
+/// The spots without rebases, which the cache has done.
+fn unrebased(spots: &LinkSpots) -> LinkSpots
+    ensures { result ≡ unrebased spots.now }
+{
+    LinkSpots {
+        rebase: Span { at: 0, len: 0 },
+        ..*spots
+    }
 }
 
 /// The header with its commands that an image has in the cache, as many bytes as `image.header`: its flags
@@ -149,8 +181,42 @@ pub fn cached_header(
     ensures bytes { IfOk result (λ v. v.items ≡ cached_bytes image.now moves.now spots.now) }
     ensures size { IfOk result (λ v. length v.items ≡ length image.now.header) }
     ensures rereads { IfOk result (λ v. Rereads image.now moves.now spots.now v.items) }
+    ensures only { IfOk result (λ v. SpellsMoved image.now moves.now spots.now v.items) }
 {
     fit_fields(spots.linkedit.file, spots.groups, image.header);
-    let header = write_header(alloc, image.header, &moves.segments, spots)?;
+    fit_sizes(spots.linkedit, spots.vmsize, spots.filesize);
+    fit_moves(&moves.segments);
+    let named = unrebased(spots);
+    let header = write_header(alloc, image.header, &moves.segments, &named, Form::Cached)?;
+    Ok(header)
+}
+
+/// The header with its commands that an image has in a file of its own, as many bytes as `image.header`: its
+/// flags say so, split information and code signatures are left out, each segment stands at its move with its
+/// sections along and all of its memory in the file, and `__LINKEDIT`, streams and tables stand at their
+/// spots, but for weak binds, which it doesn't name. Read from a file that has all of them there, it gives the
+/// image with its new places. `NoMemory` where there is none for it.
+pub fn standalone_header(
+    alloc: Global,
+    image: &Image<'_>,
+    moves: &Moves,
+    spots: &LinkSpots,
+) -> Result<Vec<u8>, NoMemory>
+    requires { CanMove image.now moves.now spots.now }
+    ensures bytes { IfOk result (λ v. v.items ≡ standalone_bytes image.now moves.now spots.now) }
+    ensures size { IfOk result (λ v. length v.items ≡ length image.now.header) }
+    ensures rereads { IfOk result (λ v. RereadsAlone image.now moves.now spots.now v.items) }
+    ensures only { IfOk result (λ v. SpellsAlone image.now moves.now spots.now v.items) }
+{
+    fit_fields(spots.linkedit.file, spots.groups, image.header);
+    fit_sizes(spots.linkedit, spots.vmsize, spots.filesize);
+    fit_moves(&moves.segments);
+    let header = write_header(
+        alloc,
+        image.header,
+        &moves.segments,
+        spots,
+        Form::Standalone,
+    )?;
     Ok(header)
 }
