@@ -9,17 +9,17 @@ use Rattle.dsc_base.specs.declared.fault.Site.{Site}
 use Rattle.dsc_base.specs.declared.fault.Fault.{Fault}
 use Rattle.dsc_base.specs.declared.fault.Fault.TheVariants.{Broken, Memory}
 use Rattle.macho_image.specs.Records.{Img}
-use Rattle.macho_image.specs.Breaks.{broken}
-use Rattle.macho_image.specs.Refuses.{IsRefusal}
+use Rattle.dsc_base.specs.Refusals.{broken, IsRefusal}
 use Rattle.macho_image.specs.declared.place.Location.{Location}
 use Rattle.macho_image.proofs.Unbroken.{or_none, broken_none}
-use Rattle.word_places.specs.declared.place.PlaceFault.{PlaceFault}
-use Rattle.word_places.specs.Order.{in_address_order, addresses_of, is_near, first_close}
-use Rattle.word_places.specs.Places.{record_limit, place_fault, IsWord}
-use Rattle.word_places.specs.Streams.{opcodes_of, records, reading_break}
-use Rattle.word_places.proofs.CloseLaws.{close_sorted, close_apart}
-use Rattle.word_places.proofs.StreamLaws.{Accepts, HasRead, accepted_records}
-use Rattle.word_places.proofs.WordLaws.{accepted_one}
+use Rattle.macho_image.specs.declared.places.record.PlaceFault.{PlaceFault}
+use Rattle.macho_image.specs.Order.{in_address_order, addresses_of, is_near, first_close}
+use Rattle.macho_image.specs.Places.{place_fault, IsWord}
+use Rattle.dsc_base.specs.Limits.{record_limit}
+use Rattle.macho_image.specs.Streams.{opcodes_of, records, reading_break}
+use Rattle.macho_image.proofs.CloseLaws.{close_sorted, close_apart}
+use Rattle.macho_image.proofs.StreamLaws.{Accepts, HasRead, accepted_records}
+use Rattle.macho_image.proofs.WordLaws.{accepted_one}
 use Rattle.bind_ops.specs.declared.fault.BindFault.TheVariants.{Place, BeforeSet, Twice}
 use Rattle.bind_ops.specs.declared.kind.StreamKind.{StreamKind}
 use Rattle.bind_ops.specs.Binds.{start, bound_at, is_set, record_fault, meaning, binds_of, places_of, bind_break, AreBinds}

@@ -7,10 +7,9 @@ use Rattle.std.proofs.lemmas.Bool.{cond-true, cond-false, cases_Bool, cases_lt, 
 use Rattle.std.proofs.lemmas.Bool.Decides.{nat_tests}
 use Rattle.std.proofs.lemmas.List.Sorted.{Contains-permutation, IsPermutation-sym}
 use Rattle.dsc_base.specs.declared.rule.Rule.TheVariants.{WordsOverlap}
-use Rattle.macho_image.specs.Breaks.{broken}
-use Rattle.macho_image.specs.Rules.{least}
+use Rattle.dsc_base.specs.Refusals.{broken, least}
 use Rattle.macho_image.proofs.Unbroken.{broken_none}
-use Rattle.word_places.specs.Order.{is_near}
+use Rattle.macho_image.specs.Order.{is_near}
 use Rattle.bind_ops.specs.Clash.{is_skew, in_pairs, clashing, least_of, clash_break, begins_in, first_in}
 
 -- numbers in a list

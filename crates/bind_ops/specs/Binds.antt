@@ -4,12 +4,13 @@ use Rattle.std.specs.List.{All, AllPairs}
 use Rattle.std.specs.Option.{option_or, unwrap_or}
 use Rattle.dsc_base.specs.declared.fault.Site.{Site}
 use Rattle.macho_image.specs.Records.{Img}
-use Rattle.macho_image.specs.Breaks.{broken}
+use Rattle.dsc_base.specs.Refusals.{broken}
 use Rattle.macho_image.specs.declared.place.Location.{Location}
-use Rattle.word_places.specs.Order.{in_address_order, addresses_of, is_near, first_close}
-use Rattle.word_places.specs.Places.{wrap, record_limit, place_fault, location, IsWord}
-use Rattle.word_places.specs.Runs.{progression}
-use Rattle.word_places.specs.Streams.{opcodes_of, Meaning, records, reading_break}
+use Rattle.macho_image.specs.Order.{in_address_order, addresses_of, is_near, first_close}
+use Rattle.macho_image.specs.Places.{wrap, place_fault, location, IsWord}
+use Rattle.dsc_base.specs.Limits.{record_limit}
+use Rattle.macho_image.specs.Runs.{progression}
+use Rattle.macho_image.specs.Streams.{opcodes_of, Meaning, records, reading_break}
 use Rattle.bind_ops.specs.declared.fault.BindFault.{BindFault}
 use Rattle.bind_ops.specs.declared.fault.BindFault.TheVariants.{Place, BeforeSet, Twice}
 use Rattle.bind_ops.specs.declared.kind.StreamKind.{StreamKind}

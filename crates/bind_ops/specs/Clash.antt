@@ -3,9 +3,8 @@ use Rattle.std.specs.Prelude.{ℕ, ◌+◌, Bool, not, ◌&&◌, List, [], ◌�
 use Rattle.std.specs.List.{list_any}
 use Rattle.dsc_base.specs.declared.fault.Site.{Site}
 use Rattle.dsc_base.specs.declared.rule.Rule.TheVariants.{WordsOverlap}
-use Rattle.macho_image.specs.Breaks.{broken}
-use Rattle.macho_image.specs.Rules.{least}
-use Rattle.word_places.specs.Order.{is_near}
+use Rattle.dsc_base.specs.Refusals.{broken, least}
+use Rattle.macho_image.specs.Order.{is_near}
 
 -- two words of 8 bytes that share one, and aren't the same word
 abbrev pub is_skew : ℕ → ℕ → Bool

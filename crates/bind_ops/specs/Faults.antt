@@ -1,7 +1,7 @@
 -- Why a bind stream is refused: rules 41 to 56, and 61 to 76 of the lazy one.
 use Rattle.dsc_base.specs.declared.rule.Rule.{Rule}
 use Rattle.dsc_base.specs.declared.rule.Rule.TheVariants.{BindBadUleb, BindBadOpcode, BindBadType, BindOutsideSegment, BindNotWritable, BindOutsideSection, BindMisaligned, BindCrossesPage, BindTooMany, BindTwice, BindBeforeSet, BindMainLookup, BindFlatLookup, BindWeakLookup, BindThreaded, BindBadName, LazyBadUleb, LazyBadOpcode, LazyBadType, LazyOutsideSegment, LazyNotWritable, LazyOutsideSection, LazyMisaligned, LazyCrossesPage, LazyTooMany, LazyTwice, LazyBeforeSet, LazyMainLookup, LazyFlatLookup, LazyWeakLookup, LazyThreaded, LazyBadName}
-use Rattle.word_places.specs.declared.place.PlaceFault.TheVariants.{OutsideSegment, NotWritable, OutsideSection, Misaligned, CrossesPage, TooMany}
+use Rattle.macho_image.specs.declared.places.record.PlaceFault.TheVariants.{OutsideSegment, NotWritable, OutsideSection, Misaligned, CrossesPage, TooMany}
 use Rattle.bind_ops.specs.declared.fault.BindFault.{BindFault}
 use Rattle.bind_ops.specs.declared.fault.BindFault.TheVariants.{BadUleb, BadOpcode, BadType, Place, BeforeSet, MainLookup, FlatLookup, WeakLookup, Threaded, BadName, Twice}
 use Rattle.bind_ops.specs.declared.kind.StreamKind.{StreamKind}

@@ -2,8 +2,8 @@
 use Rattle.std.specs.Prelude.{ℕ, ℤ, ◌+◌, ◌*◌, ◌/◌, ◌%◌, Bool, true, false, List, take, drop, slice_index, position, Option, Some, None, Result, Ok, Err, nat_eq, nat_le, if◌then◌else◌}
 use Rattle.dsc_base.specs.declared.fault.UlebFault.{UlebFault}
 use Rattle.dsc_base.specs.Uleb.{uleb_at, sleb_at}
-use Rattle.word_places.specs.Places.{wrap}
-use Rattle.word_places.specs.Streams.{Spelling}
+use Rattle.macho_image.specs.Places.{wrap}
+use Rattle.macho_image.specs.Streams.{Spelling}
 use Rattle.bind_ops.specs.declared.fault.BindFault.{BindFault}
 use Rattle.bind_ops.specs.declared.fault.BindFault.TheVariants.{BadUleb, BadOpcode, BadType, MainLookup, FlatLookup, WeakLookup, Threaded, BadName}
 use Rattle.bind_ops.specs.declared.kind.StreamKind.{StreamKind}
@@ -11,6 +11,7 @@ use Rattle.bind_ops.specs.declared.kind.StreamKind.TheVariants.{Bind}
 use Rattle.bind_ops.specs.declared.opcode.BindOpcode.{BindOpcode}
 use Rattle.bind_ops.specs.declared.opcode.BindOpcode.TheVariants.{Done, SetOrdinal, SetSymbol, SetPointerType, SetAddend, SetPlace, Advance, Record}
 use Rattle.bind_ops.specs.Records.{SymbolName}
+use Rattle.dsc_base.specs.Limits.{name_limit}
 
 infixl 10 ◌>>=◌
 abbrev pub ◌>>=◌ : {A B : Type 0} → Result A BindFault → (A → Result B BindFault) → Result B BindFault
@@ -27,10 +28,6 @@ operand_at bytes at = operand_in (uleb_at bytes at)
 
 unfoldable pub signed_operand_at : List ℕ → ℕ → Result (ℤ × ℕ) BindFault
 signed_operand_at bytes at = operand_in (sleb_at bytes at)
-
--- the most bytes of a name
-abbrev pub name_limit : ℕ
-name_limit = 16_384
 
 -- a symbol whose name is the bytes up to the first NUL, and the place behind that
 abbrev pub symbol_in : Bool → List ℕ → ℕ → Option ℕ → Result (SymbolName × ℕ) BindFault

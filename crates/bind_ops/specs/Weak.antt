@@ -2,7 +2,7 @@
 use Rattle.std.specs.Prelude.{ℕ, List, not, position, Option, nat_eq}
 use Rattle.dsc_base.specs.declared.fault.Site.{Site}
 use Rattle.dsc_base.specs.declared.rule.Rule.TheVariants.{WeakBinding}
-use Rattle.macho_image.specs.Breaks.{broken}
+use Rattle.dsc_base.specs.Refusals.{broken}
 
 -- rule 81: the first byte that isn't 0
 abbrev pub weak_break : List ℕ → Option Site

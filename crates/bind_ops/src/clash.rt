@@ -2,9 +2,8 @@
 ghost use Rattle.std.specs.Prelude.{◌≡◌, ◌≤◌, ◌<◌, ◌+◌, ◌++◌, ℕ, length, nat_le, slice_index, IfOk, IfErr};
 ghost use Rattle.std.specs.List.Sorted.{IsPermutation, IsNonDecreasingBy};
 ghost use Rattle.dsc_base.specs.declared.fault.Fault.TheVariants as faults;
-ghost use Rattle.macho_image.specs.Refuses.{Refuses};
-ghost use Rattle.macho_image.specs.Rules.{least};
-ghost use Rattle.word_places.specs.Order.{addresses_of};
+ghost use Rattle.dsc_base.specs.Refusals.{Refuses, least};
+ghost use Rattle.macho_image.specs.Order.{addresses_of};
 ghost use Rattle.bind_ops.specs.Binds.{places_of};
 ghost use Rattle.bind_ops.specs.Clash.{first_in, clash_break};
 

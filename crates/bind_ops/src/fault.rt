@@ -4,7 +4,7 @@ ghost use Rattle.bind_ops.specs.Faults as spec;
 
 use crate::StreamKind;
 use dsc_base::Rule;
-use word_places::PlaceFault;
+use macho_image::PlaceFault;
 
 /// Why an opcode or a record is refused.
 #[derive(Clone, Copy)]

@@ -1,7 +1,7 @@
 // Bind opcodes, read one at a time.
 ghost use Rattle.std.specs.Prelude.{◌≡◌, ◌<◌, ◌≤◌, ◌+◌, length, IfOk};
 ghost use Rattle.bind_ops.specs.Opcodes as spec;
-ghost use Rattle.word_places.specs.Places.{wrap};
+ghost use Rattle.macho_image.specs.Places.{wrap};
 
 use crate::fault::BindFault;
 use crate::symbol::{Symbol, read_symbol};

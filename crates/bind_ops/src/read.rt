@@ -2,19 +2,18 @@
 ghost use Rattle.std.specs.Prelude.{◌≡◌, map, IfOk, IfErr};
 ghost use Rattle.std.specs.List.Sorted.{IsPermutation, IsNonDecreasingBy};
 ghost use Rattle.dsc_base.specs.declared.fault.Fault.TheVariants as faults;
-ghost use Rattle.macho_image.specs.Refuses.{Refuses};
+ghost use Rattle.dsc_base.specs.Refusals.{Refuses};
 ghost use Rattle.bind_ops.specs.Binds as spec;
 ghost use Rattle.bind_ops.specs.Opcodes.{ends, spelling};
-ghost use Rattle.word_places.specs.Streams.{opcodes_of, records, reading_break};
+ghost use Rattle.macho_image.specs.Streams.{opcodes_of, records, reading_break};
 
 use crate::fault::BindFault;
 use crate::opcode::{BindOpcode, read_opcode};
 use crate::run::{State, apply, broken};
 use crate::{Bind, StreamKind};
 use dsc_base::{Fault, Site};
-use macho_image::{Image, Location};
+use macho_image::{Image, Location, first_close};
 use std::alloc::Global;
-use word_places::first_close;
 
 // Whether an opcode ends its stream.
 fn ends(kind: StreamKind, opcode: &BindOpcode<'_>) -> bool

@@ -1,9 +1,9 @@
 // What one opcode records, and what is set behind it.
 ghost use Rattle.std.specs.Prelude.{◌≡◌, ◌++◌, ◌+◌, ◌*◌, length, map, option_map, IfOk, OnOk};
-ghost use Rattle.macho_image.specs.Refuses.{Refuses};
-ghost use Rattle.word_places.specs.Places.{wrap, unless};
-ghost use Rattle.word_places.specs.Runs.{progression, first_fault};
-ghost use Rattle.word_places.specs.Streams.{site_in};
+ghost use Rattle.dsc_base.specs.Refusals.{Refuses};
+ghost use Rattle.macho_image.specs.Places.{wrap, unless};
+ghost use Rattle.macho_image.specs.Runs.{progression, first_fault};
+ghost use Rattle.macho_image.specs.Streams.{site_in};
 ghost use Rattle.bind_ops.specs.Faults.{rule_in};
 ghost use Rattle.bind_ops.specs.Binds as spec;
 
@@ -12,8 +12,7 @@ use crate::opcode::BindOpcode;
 use crate::symbol::Symbol;
 use crate::{Bind, StreamKind};
 use dsc_base::{Fault, Site};
-use macho_image::Image;
-use word_places::locate;
+use macho_image::{Image, locate};
 
 /// What is set: the segment, the offset of the next record from its start, and what words are bound to.
 #[derive(Drop)]

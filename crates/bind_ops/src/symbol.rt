@@ -3,10 +3,8 @@ ghost use Rattle.std.specs.Prelude.{◌≡◌, ◌≤◌, ◌<◌, ◌+◌, nat_
 ghost use Rattle.bind_ops.specs.Opcodes.{symbol_at};
 
 use crate::fault::BindFault;
+use dsc_base::NAME_LIMIT;
 use std::marker::Model;
-
-/// The most bytes of a name.
-const NAME_LIMIT: usize = 16_384;
 
 /// A symbol that words are bound to, which may be absent where it is weak.
 #[derive(Drop)]

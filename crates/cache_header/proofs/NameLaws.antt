@@ -11,7 +11,8 @@ use Rattle.dsc_base.specs.declared.fault.ViewFault.{ViewFault}
 use Rattle.dsc_base.specs.declared.fault.ViewFault.TheVariants.{Broken}
 use Rattle.dsc_base.specs.declared.finding_kind.FindingKind.TheVariants.{NameNotPlain}
 use Rattle.cache_header.specs.Reading.{image_count, path_offset}
-use Rattle.cache_header.specs.Findings.{begins_plain, has_plain_path, ill_named, finding, name_finding, IsCause}
+use Rattle.cache_header.specs.Findings.{begins_plain, has_plain_path, ill_named, finding, name_finding}
+use Rattle.dsc_base.specs.Refusals.{IsViewRefusal}
 
 -- ---- the images' paths
 
@@ -97,9 +98,9 @@ pub path_begins : (cache rest : List ℕ) (k at : ℕ) (answer : Bool) → rest 
 path_begins cache rest k at answer rest_is at_is begins = ap (λ (n : ℕ). begins_plain (drop n cache)) (sym at_is) ∙ (ap begins_plain (sym rest_is) ∙ begins)
 
 pub cause_ill_named : (cache : List ℕ) (k at : ℕ) (fault : ViewFault) → k < image_count cache → NamedBelow cache k → at ≡ path_offset cache k → has_plain_path cache k ≡ false
-    → fault ≡ Broken (finding NameNotPlain k at) → IsCause (name_finding cache) fault
+    → fault ≡ Broken (finding NameNotPlain k at) → IsViewRefusal (name_finding cache) fault
 cause_ill_named cache k at fault lt named at_is ill fault_is =
     let first : ill_named cache ≡ Some k = first_ill_named cache k lt named ill in
     let found : name_finding cache ≡ Some (finding NameNotPlain k at) =
     ap (λ (o : Option ℕ). option_map (λ j. finding NameNotPlain j (path_offset cache j)) o) first ∙ ap (λ (n : ℕ). Some (finding NameNotPlain k n)) (sym at_is) in
-    subst (IsCause (name_finding cache)) (sym fault_is) found
+    subst (IsViewRefusal (name_finding cache)) (sym fault_is) found

@@ -72,8 +72,3 @@ head_finding cache =
     else (if not (has_header cache) then Some (finding ShortHeader 0 0x10)
     else (if is_some (table_outside cache) then option_map (finding TableOutside 0) (table_outside cache)
     else name_finding cache))
-
--- why a reader refused: what it found, or want of memory
-abbrev pub IsCause : Option Finding → ViewFault → Type 0
-IsCause found (Broken f) = found ≡ Some f
-IsCause found Memory = Unit {0}

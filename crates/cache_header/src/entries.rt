@@ -4,7 +4,8 @@ ghost use Rattle.dsc_base.specs.declared.fault.ViewFault.TheVariants.{Broken};
 ghost use Rattle.dsc_base.specs.declared.finding_kind.FindingKind.TheVariants.{NameNotPlain};
 ghost use Rattle.dsc_base.specs.Numbers.{number_at};
 ghost use Rattle.cache_header.specs.Reading.{mapping_at, mappings_of, image_count, path_offset, image_path, image_uuid, image_text_size, image_at, images_of};
-ghost use Rattle.cache_header.specs.Findings.{HasHeader, HasTables, ill_named, finding, name_finding, IsCause};
+ghost use Rattle.cache_header.specs.Findings.{HasHeader, HasTables, ill_named, finding, name_finding};
+ghost use Rattle.dsc_base.specs.Refusals.{IsViewRefusal};
 
 use crate::header::{
     IMAGES_COUNT, IMAGES_OFFSET, MAPPING_COUNT, MAPPING_OFFSET, TEXTS_COUNT, TEXTS_OFFSET, field32,
@@ -105,7 +106,7 @@ pub(crate) fn images(alloc: Global, bytes: &[u8]) -> Result<Vec<TableImage>, Vie
     requires tables { HasTables bytes.now }
     ensures images { IfOk result (λ v. v.items ≡ images_of bytes.now) }
     ensures named { OnOk result (name_finding bytes.now ≡ None) }
-    ensures cause { IfErr result (IsCause (name_finding bytes.now)) }
+    ensures cause { IfErr result (IsViewRefusal (name_finding bytes.now)) }
 {
     let count = field32(bytes, IMAGES_COUNT);
     let mut images = Vec::with_capacity(alloc, count as usize)?;

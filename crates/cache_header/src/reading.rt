@@ -3,7 +3,8 @@ ghost use Rattle.std.specs.Prelude.{◌≡◌, None, IfOk, OnOk, IfErr};
 ghost use Rattle.dsc_base.specs.declared.finding_kind.FindingKind.{FindingKind};
 ghost use Rattle.dsc_base.specs.declared.fault.ViewFault.TheVariants.{Broken};
 ghost use Rattle.cache_header.specs.Reading.{head_read};
-ghost use Rattle.cache_header.specs.Findings.{HasHeader, HasTables, finding, name_finding, head_finding, IsCause};
+ghost use Rattle.cache_header.specs.Findings.{HasHeader, HasTables, finding, name_finding, head_finding};
+ghost use Rattle.dsc_base.specs.Refusals.{IsViewRefusal};
 
 use crate::CacheHead;
 use crate::entries::{images, mappings};
@@ -23,7 +24,7 @@ fn read_tables(alloc: Global, bytes: &[u8]) -> Result<CacheHead, ViewFault>
     requires tables { HasTables bytes.now }
     ensures head { IfOk result (λ h. h ≡ head_read bytes.now) }
     ensures named { OnOk result (name_finding bytes.now ≡ None) }
-    ensures cause { IfErr result (IsCause (name_finding bytes.now)) }
+    ensures cause { IfErr result (IsViewRefusal (name_finding bytes.now)) }
 {
     let images = images(alloc, bytes)?;
     let mappings = mappings(alloc, bytes)?;
@@ -52,7 +53,7 @@ fn read_tables(alloc: Global, bytes: &[u8]) -> Result<CacheHead, ViewFault>
 pub fn read_cache_head(alloc: Global, bytes: &[u8]) -> Result<CacheHead, ViewFault>
     ensures head { IfOk result (λ h. h ≡ head_read bytes.now) }
     ensures sound { OnOk result (head_finding bytes.now ≡ None) }
-    ensures cause { IfErr result (IsCause (head_finding bytes.now)) }
+    ensures cause { IfErr result (IsViewRefusal (head_finding bytes.now)) }
 {
     if !is_cache(bytes) {
         return Err(found(FindingKind::NotCache, 0));

@@ -11,7 +11,8 @@ use Rattle.dsc_base.specs.Numbers.{number_at}
 use Rattle.dsc_base.specs.declared.rule.Rule.TheVariants.{SegmentShape, SegmentProt, NameText}
 use Rattle.macho_image.specs.Records.{Seg, Img, Load, SegmentLoad}
 use Rattle.macho_image.specs.Macho.{header_size, commands_of, loads_of, pieces_of, number_of, segment_loads, segment_with, command_where, install_name_of, is_install_name, is_dylib, dylib_name}
-use Rattle.macho_image.specs.Rules.{least, is_well_shaped, first_crossing, is_linkedit_segment, is_linkedit_name, is_linkedit, is_text, is_good_text, is_good_linkedit, has_reserved_name, misplaced_behind, misplaced, first_segment, breaks_segment_shape, breaks_segment_prot, breaks_name_text, is_plain_name, is_printable}
+use Rattle.macho_image.specs.Rules.{is_well_shaped, first_crossing, is_linkedit_segment, is_linkedit_name, is_linkedit, is_text, is_good_text, is_good_linkedit, has_reserved_name, misplaced_behind, misplaced, first_segment, breaks_segment_shape, breaks_segment_prot, breaks_name_text, is_plain_name, is_printable}
+use Rattle.dsc_base.specs.Refusals.{least}
 use Rattle.macho_image.specs.Breaks.{header_break, section_break, name_break, unread, IsSound}
 use Rattle.macho_image.proofs.Images.{pieces_of-loads_from}
 use Rattle.macho_image.proofs.Unbroken.{or_none, broken_none, least_none_both}

@@ -10,6 +10,7 @@ use Rattle.macho_image.specs.declared.place.Moved.{Moved}
 use Rattle.cache_layout.specs.declared.mapping.Mapping.{Mapping}
 use Rattle.cache_layout.specs.declared.mapping.Mapping.TheVariants.{Text, Writable, Fixed}
 use Rattle.cache_layout.specs.Places.{images_room, mapping_start, all_moves, all_shifts}
+use Rattle.dsc_base.specs.Limits.{span_limit}
 
 -- A layout: by image and segment the new places and the shifts, and the ranges of the file that hold the segments of each mapping. The entries of `__LINKEDIT` are 0.
 pub record Laid : Type 0 where
@@ -38,9 +39,4 @@ segments_end is = mapping_start Fixed is + images_room Fixed is
 -- head and segments may have 512 MiB
 unfoldable pub layout_break : List Img → Option Break
 layout_break is =
-    if nat_lt 0x20000000 (segments_end is) then Some (record { rule = SpanTooLarge; image = 0; at = segments_end is }) else None
-
--- a broken rule is that of the layout; memory may be wanting at any time
-abbrev pub IsLayoutRefusal : List Img → SetFault → Type 0
-IsLayoutRefusal is (Broken b) = layout_break is ≡ Some b
-IsLayoutRefusal is Memory = Unit {0}
+    if nat_lt span_limit (segments_end is) then Some (record { rule = SpanTooLarge; image = 0; at = segments_end is }) else None

@@ -2,18 +2,17 @@
 ghost use Rattle.std.specs.Prelude.{◌≡◌, ◌≤◌, ◌<◌, ◌+◌, [], length, slice_index, slice_index_or, All, IfOk, OnOk, IfErr, None};
 ghost use Rattle.cache_layout.specs.Apart.{AreInTurn, AreWithin, AreApart};
 ghost use Rattle.cache_layout.specs.Parts.{AreJoined};
-ghost use Rattle.cache_layout.specs.Layouts.{layout_of, layout_break, IsLayoutRefusal};
+ghost use Rattle.dsc_base.specs.Refusals.{IsSetRefusal};
+ghost use Rattle.cache_layout.specs.Layouts.{layout_of, layout_break};
 
 use crate::moving::put_images;
 use crate::room::{Room, head_size, images_room};
-use dsc_base::{Break, Rule, SetFault, Span, page_up};
+use dsc_base::{Break, Rule, SPAN_LIMIT, SetFault, Span, page_up};
 use macho_image::{Image, Moves};
 use std::alloc::Global;
 use std::marker::Model;
 
 /// How many bytes the head and the segments of a cache may take.
-const SPAN_LIMIT: u64 = 0x2000_0000;
-
 /// Where the segments of a set of images go: their new addresses and file offsets, and the ranges of
 /// the file that hold the segments of each mapping.
 #[derive(Drop)]
@@ -89,7 +88,7 @@ pub fn lay_out(alloc: Global, images: &[Image<'_>]) -> Result<Layout, SetFault>
     ensures apart { IfOk result (AreApart images.now) }
     ensures parts { IfOk result (AreJoined images.now) }
     ensures fits { OnOk result (layout_break images.now ≡ None) }
-    ensures cause { IfErr result (IsLayoutRefusal images.now) }
+    ensures cause { IfErr result (IsSetRefusal (layout_break images.now)) }
 {
     let head = page_up(head_size(images));
     let room = images_room(images);

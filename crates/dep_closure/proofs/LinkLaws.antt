@@ -8,8 +8,8 @@ use Rattle.dsc_base.specs.declared.fault.Fault.{Fault}
 use Rattle.dsc_base.specs.declared.fault.Fault.TheVariants.{Broken, Memory}
 use Rattle.dsc_base.specs.declared.fault.SetFault.{SetFault}
 use Rattle.macho_image.specs.Records.{Img}
-use Rattle.macho_image.specs.Refuses.{IsRefusal}
-use Rattle.dep_closure.specs.Breaks.{image_break, in_image, break_from, link_break, in_set, IsSetRefusal}
+use Rattle.dsc_base.specs.Refusals.{IsRefusal, in_image, in_set, IsSetRefusal}
+use Rattle.dep_closure.specs.Breaks.{image_break, break_from, link_break}
 
 -- lists as they are in their vectors
 abbrev pub items_of : {X : Type 0} → Vec X Global → List X

@@ -10,8 +10,7 @@ use Rattle.dsc_base.specs.declared.rule.Rule.TheVariants.{RelativeDependency, Mi
 use Rattle.macho_image.specs.Records.{Img, Dep as Dependency}
 use Rattle.dep_closure.specs.declared.dep.Dep.{Dep}
 use Rattle.dep_closure.specs.Dependencies.{image_named, named_by}
-use Rattle.macho_image.specs.Breaks.{broken}
-use Rattle.macho_image.specs.Refuses.{IsRefusal}
+use Rattle.dsc_base.specs.Refusals.{broken, IsRefusal}
 use Rattle.dep_closure.specs.Breaks.{is_weak, is_absolute, is_lacking, dependency_break}
 use Rattle.dep_closure.proofs.PositionLaws.{or_last, position-push, position-take, from_below}
 

@@ -9,7 +9,7 @@ use Rattle.dsc_base.specs.declared.fault.SetFault.{SetFault}
 use Rattle.dsc_base.specs.declared.fault.SetFault.TheVariants.{Broken, Memory}
 use Rattle.dsc_base.specs.declared.rule.Rule.TheVariants.{DuplicateName, RelativeDependency, MissingDependency}
 use Rattle.macho_image.specs.Records.{Img, Dep as Dependency}
-use Rattle.macho_image.specs.Breaks.{broken}
+use Rattle.dsc_base.specs.Refusals.{broken, in_image}
 use Rattle.macho_image.specs.declared.form.LinkKind.{LinkKind}
 use Rattle.macho_image.specs.declared.form.LinkKind.TheVariants.{Weak}
 use Rattle.dep_closure.specs.Dependencies.{image_named}
@@ -40,10 +40,6 @@ dependency_break images ds =
 abbrev pub image_break : List Img → ℕ → Img → Option Site
 image_break images k i = option_or (broken DuplicateName (image_named (take k images) i.install_name)) (dependency_break images i.dependencies)
 
--- a break of image k as one of the set
-abbrev pub in_image : ℕ → Site → Break
-in_image k s = record { rule = s.rule; image = k; at = s.at }
-
 -- the first break of the images from number k on
 abbrev pub break_from : List Img → ℕ → List Img → Option Break
 break_from images k [] = None
@@ -51,18 +47,3 @@ break_from images k (i ∷ is) = option_or (option_map (in_image k) (image_break
 
 unfoldable pub link_break : List Img → Option Break
 link_break images = break_from images 0 images
-
--- a fault of image k as one of the set
-abbrev pub in_set : ℕ → Fault → SetFault
-in_set k (BrokenSite s) = Broken (in_image k s)
-in_set k FaultMemory = Memory
-
--- a broken rule is the one that is there; memory may be wanting at any time
-abbrev pub IsSetRefusal : Option Break → SetFault → Type 0
-IsSetRefusal found (Broken b) = found ≡ Some b
-IsSetRefusal found Memory = Unit {0}
-
--- Ok comes only where there is no break
-abbrev pub RefusesSet : {X : Type 0} → Option Break → Result X SetFault → Type 0
-RefusesSet found (Ok x) = found ≡ None
-RefusesSet found (Err fault) = IsSetRefusal found fault

@@ -1,7 +1,7 @@
 // What the dependencies of an image name, and what it re-exports.
 ghost use Rattle.std.specs.Prelude.{◌≡◌, ◌≤◌, not, length, IfOk, map, position, IfSome, IfNone, OnOk};
 ghost use Rattle.std.specs.List.{filter_map};
-ghost use Rattle.macho_image.specs.Refuses.{Refuses};
+ghost use Rattle.dsc_base.specs.Refusals.{Refuses};
 ghost use Rattle.dep_closure.specs.Dependencies.{named_by, dependencies_of};
 ghost use Rattle.dep_closure.specs.SearchOrder.{is_reexport, reexport_by, reexports_of};
 ghost use Rattle.dep_closure.specs.Breaks.{is_weak, is_absolute, dependency_break, image_break};

@@ -3,7 +3,8 @@ ghost use Rattle.std.specs.Prelude.{◌≡◌, ◌≤◌, ◌<◌, [], length, m
 ghost use Rattle.dep_closure.specs.Dependencies.{dependencies_of};
 ghost use Rattle.dep_closure.specs.SearchOrder.{reexports};
 ghost use Rattle.dep_closure.specs.Linked.{links_of, dependency_at, AreLinks};
-ghost use Rattle.dep_closure.specs.Breaks.{link_break, in_set, RefusesSet};
+ghost use Rattle.dep_closure.specs.Breaks.{link_break};
+ghost use Rattle.dsc_base.specs.Refusals.{in_set, RefusesSet};
 
 use crate::Dep;
 use crate::dependencies::{image_dependencies, image_reexports};
@@ -60,19 +61,6 @@ impl Links {
     }
 }
 
-fn of_image(fault: Fault, image: u32) -> SetFault
-    ensures { result ≡ in_set image fault }
-{
-    match fault {
-        Fault::Broken(site) => SetFault::Broken(Break {
-            rule: site.rule,
-            image,
-            at: site.at,
-        }),
-        Fault::Memory => SetFault::Memory,
-    }
-}
-
 /// What the dependencies of each image name, or the first rule that one of the images breaks.
 fn all_dependencies(
     alloc: Global,
@@ -88,7 +76,7 @@ fn all_dependencies(
     for (number, image) in images.iter().enumerate() {
         match image_dependencies(alloc, names, number as u32, image) {
             Ok(dependencies) => found.push(dependencies)?,
-            Err(fault) => return Err(of_image(fault, number as u32)),
+            Err(fault) => return Err(fault.in_image(number as u32)),
         }
     }
     Ok(found)

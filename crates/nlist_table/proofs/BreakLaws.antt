@@ -7,11 +7,10 @@ use Rattle.std.proofs.lemmas.Option.{slice_get_within}
 use Rattle.dsc_base.specs.declared.fault.Site.{Site}
 use Rattle.dsc_base.specs.declared.fault.Fault.{Fault}
 use Rattle.dsc_base.specs.declared.rule.Rule.TheVariants.{TableNameOutside, TableBadSection, TableIndexOutside}
-use Rattle.macho_image.specs.Breaks.{broken}
-use Rattle.macho_image.specs.Refuses.{IsRefusal, Refuses}
+use Rattle.dsc_base.specs.Refusals.{broken, IsRefusal, Refuses}
 use Rattle.macho_image.proofs.Unbroken.{broken_none, least_none_both}
-use Rattle.nlist_table.specs.Nlists.{Nlist, is_flag, is_kept}
-use Rattle.nlist_table.specs.TableRules.{lacks_name, lacks_section, ends_behind, breaks_groups, breaks_table_name, breaks_table_section, breaks_table_index, lacks_symbol, is_symbol, nearer, tables_break}
+use Rattle.macho_image.specs.Nlists.{Nlist, is_flag, is_kept}
+use Rattle.macho_image.specs.TableRules.{lacks_name, lacks_section, ends_behind, breaks_groups, breaks_table_name, breaks_table_section, breaks_table_index, lacks_symbol, is_symbol, nearer, tables_break}
 use Rattle.nlist_table.specs.Kept.{EachGroup}
 use Rattle.nlist_table.proofs.ListLaws.{none_pass}
 

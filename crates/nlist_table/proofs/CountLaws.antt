@@ -4,7 +4,7 @@ use Rattle.std.specs.List.{count_by, range_with_len}
 use Rattle.std.proofs.Math.Seq.{take-add}
 use Rattle.std.proofs.lemmas.List.Sums.{sum_by-append, sum_by-take-le, count_by_more_yes, count_by_more_no}
 use Rattle.std.proofs.lemmas.List.FromFn.{length-map-range_with_len, get_or-map-range_with_len, map-range_with_len_more}
-use Rattle.nlist_table.specs.Nlists.{Nlist, is_stab, is_kept}
+use Rattle.macho_image.specs.Nlists.{Nlist, is_stab, is_kept}
 use Rattle.nlist_table.specs.Symbols.{kept_before, indices_of}
 use Rattle.nlist_table.proofs.ListLaws.{count_front}
 

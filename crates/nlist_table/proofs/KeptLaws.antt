@@ -6,8 +6,8 @@ use Rattle.std.proofs.lemmas.Bool.Decides.{nat_tests}
 use Rattle.std.proofs.lemmas.List.Elements.{All-cons, All-nil, All-head, All-tail}
 use Rattle.std.proofs.lemmas.Option.{slice_get-map, slice_get_within}
 use Rattle.macho_image.specs.Records.{Img, StreamBytes}
-use Rattle.nlist_table.specs.Nlists.{Nlist, nlists_of, indirect_of, is_flag, is_kept}
-use Rattle.nlist_table.specs.TableRules.{lacks_symbol, tables_break, table_break}
+use Rattle.macho_image.specs.Nlists.{Nlist, nlists_of, indirect_of, is_flag, is_kept}
+use Rattle.macho_image.specs.TableRules.{lacks_symbol, tables_break, table_break}
 use Rattle.nlist_table.specs.Symbols.{Sym, Tabs, symbol_of, symbols_of, kept_before, renumbered, tables_from, tables_of}
 use Rattle.nlist_table.specs.Kept.{AreTables, IsRenumbered, LeadAsBefore, LeadAsIn}
 use Rattle.nlist_table.proofs.ListLaws.{filter_get, filter_take, filter_drop}

@@ -9,7 +9,7 @@ use Rattle.std.proofs.Math.ListN.{get_or-append}
 use Rattle.std.proofs.Math.Seq.{get_or-append_seam, take-append_seam, take-append-add}
 use Rattle.std.proofs.lemmas.List.Quantifiers.{position-Some}
 use Rattle.memchr.specs.Find.{IsFirstByte, is_byte}
-use Rattle.nlist_table.specs.Nlists.{before_nul, name_at}
+use Rattle.macho_image.specs.Nlists.{before_nul, name_at}
 use Rattle.nlist_table.specs.Kept.{IsName}
 use Rattle.nlist_table.proofs.ListLaws.{position_found, position_absent}
 

@@ -5,7 +5,8 @@ use Rattle.std.proofs.lemmas.List.{get_or-append_right}
 use Rattle.std.proofs.lemmas.List.Elements.{All-head, All-tail}
 use Rattle.dsc_base.specs.Numbers.{number_at, little_bytes}
 use Rattle.dsc_base.proofs.NumberLaws.{number_at-append_right, number_at-little_bytes, length-little_bytes}
-use Rattle.nlist_table.specs.Nlists.{Nlist, nlist_at, nlist_bytes, FitsNlist, nlists_of, indirect_of}
+use Rattle.macho_image.specs.Nlists.{Nlist, nlist_at, nlists_of, indirect_of}
+use Rattle.nlist_table.specs.Spelling.{nlist_bytes, FitsNlist}
 
 map_further : {X : Type 0} (f g : ℕ → X) (a n : ℕ) → ((k : ℕ) → f (k + 1) ≡ g k) → map f (range_with_len (a + 1) n) ≡ map g (range_with_len a n)
 map_further f g a zero same = refl

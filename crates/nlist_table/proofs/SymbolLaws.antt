@@ -6,8 +6,8 @@ use Rattle.std.proofs.lemmas.Bool.Decides.{nat_tests}
 use Rattle.std.proofs.lemmas.List.{length-map}
 use Rattle.std.proofs.lemmas.List.Elements.{All-cons, All-nil, All-head, All-tail}
 use Rattle.std.proofs.lemmas.List.Sums.{length-filter}
-use Rattle.nlist_table.specs.Nlists.{Nlist, is_stab, is_in_section, is_alias, name_at, is_kept}
-use Rattle.nlist_table.specs.TableRules.{lacks_name, lacks_section}
+use Rattle.macho_image.specs.Nlists.{Nlist, is_stab, is_in_section, is_alias, name_at, is_kept}
+use Rattle.macho_image.specs.TableRules.{lacks_name, lacks_section}
 use Rattle.nlist_table.specs.Symbols.{symbol_of, symbols_of}
 use Rattle.nlist_table.specs.Kept.{HasAlias, IsSymbol}
 use Rattle.nlist_table.proofs.NameLaws.{name_is, found_name}

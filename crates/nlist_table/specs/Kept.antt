@@ -2,7 +2,7 @@
 use Rattle.std.specs.Prelude.{◌≡◌, ◌≤◌, ◌<◌, ℕ, ◌+◌, Bool, true, false, List, length, take, drop, slice_index, slice_get, All, Option, Some, None}
 use Rattle.std.specs.List.{AllZip}
 use Rattle.macho_image.specs.Records.{Img}
-use Rattle.nlist_table.specs.Nlists.{Nlist, nlists_of, is_stab, is_in_section, is_alias, indirect_of, is_flag}
+use Rattle.macho_image.specs.Nlists.{Nlist, nlists_of, is_stab, is_in_section, is_alias, indirect_of, is_flag}
 use Rattle.nlist_table.specs.Symbols.{Sym, Tabs, symbol_of, symbols_of}
 
 -- a name that a string table may hold

@@ -1,5 +1,4 @@
-pub mod Nlists
-pub mod TableRules
+pub mod Spelling
 pub mod Symbols
 pub mod Kept
 pub mod Moving

@@ -2,7 +2,7 @@
 use Rattle.std.specs.Prelude.{ℕ, ◌+◌, ◌-◌, ◌%◌, ◌^◌, List, slice_get, option_map, unwrap_or, if◌then◌else◌}
 use Rattle.macho_image.specs.Records.{Img}
 use Rattle.macho_image.specs.declared.place.Moved.{Moved}
-use Rattle.nlist_table.specs.Nlists.{is_in_section}
+use Rattle.macho_image.specs.Nlists.{is_in_section}
 use Rattle.nlist_table.specs.Symbols.{Sym}
 
 -- the number of the segment of a section, which counts from 1

@@ -2,7 +2,7 @@
 use Rattle.std.specs.Prelude.{ℕ, ◌+◌, List, [], ◌∷◌, length, map, filter, take, drop, count_by, slice_index, Option, None, unwrap_or, if◌then◌else◌}
 use Rattle.std.specs.List.{flat_map, range_with_len}
 use Rattle.macho_image.specs.Records.{Img}
-use Rattle.nlist_table.specs.Nlists.{Nlist, nlists_of, is_kept, is_alias, name_at, indirect_of, is_flag}
+use Rattle.macho_image.specs.Nlists.{Nlist, nlists_of, is_kept, is_alias, name_at, indirect_of, is_flag}
 
 -- a symbol
 pub record Sym : Type 0 where

@@ -1,6 +1,6 @@
 // The entries of a symbol table and of an indirect table.
 ghost use Rattle.std.specs.Prelude.{◌≡◌, ◌≤◌, ◌+◌, length, IfOk};
-ghost use Rattle.nlist_table.specs.Nlists as spec;
+ghost use Rattle.macho_image.specs.Nlists as spec;
 
 use dsc_base::{NoMemory, get_u16, get_u32, get_u64};
 use std::alloc::Global;
@@ -23,14 +23,14 @@ pub(crate) struct Entry {
 }
 
 impl Model for Entry {
-    ghost use Rattle.nlist_table.specs.Nlists.{Nlist};
+    ghost use Rattle.macho_image.specs.Nlists.{Nlist};
 
     ghost Value = { Nlist };
 
     ghost view = { λ e. record { strx = e.strx; kind = e.kind; section = e.section; desc = e.desc; value = e.value } };
 }
 
-#[tactic(auto, unfolding(crate::specs::Nlists::nlist_at))]
+#[tactic(auto, unfolding(macho_image::specs::Nlists::nlist_at))]
 fn entry_at(bytes: &[u8], at: usize) -> Entry
     requires { at + 16 ≤ length bytes.now }
     ensures { result ≡ spec.nlist_at bytes.now at }

@@ -1,11 +1,9 @@
 // Names in a string table.
 ghost use Rattle.std.specs.Prelude.{◌≡◌, position, nat_eq, take, drop, option_copied};
-ghost use Rattle.nlist_table.specs.Nlists.{name_at};
+ghost use Rattle.macho_image.specs.Nlists.{name_at};
 
+use dsc_base::NAME_LIMIT;
 use memchr::memchr;
-
-/// A name and its NUL have so many bytes at most.
-const NAME_LIMIT: usize = 16_384;
 
 fn nul_at(bytes: &[u8]) -> Option<usize>
     ensures { result ≡ position (λ x. nat_eq x 0) bytes.now }
@@ -37,7 +35,7 @@ fn front<'a>(bytes: &'a [u8], len: usize) -> &'a [u8]
 }
 
 /// The name at an index, without its NUL, if the string table has one there. At 0 stands the empty one.
-#[tactic(auto, unfolding(crate::specs::Nlists::name_at))]
+#[tactic(auto, unfolding(macho_image::specs::Nlists::name_at))]
 pub(crate) fn name_at<'a>(strings: &'a [u8], index: u64) -> Option<&'a [u8]>
     ensures { option_copied result ≡ name_at strings.entry.now index }
 {

@@ -1,7 +1,7 @@
 // The numbers that the entries of a symbol table have where its stabs are left out.
 ghost use Rattle.std.specs.Prelude.{◌≡◌, ◌≤◌, ◌<◌, ◌+◌, false, length, map, take, drop, count_by, slice_get, slice_index, IfOk, All};
-ghost use Rattle.nlist_table.specs.Nlists.{is_flag, is_kept};
-ghost use Rattle.nlist_table.specs.TableRules.{is_symbol};
+ghost use Rattle.macho_image.specs.Nlists.{is_flag, is_kept};
+ghost use Rattle.macho_image.specs.TableRules.{is_symbol};
 ghost use Rattle.nlist_table.specs.Kept.{EachGroup};
 ghost use Rattle.nlist_table.specs.Symbols as spec;
 

@@ -1,8 +1,8 @@
 // The tables of an image, read whole.
 ghost use Rattle.std.specs.Prelude.{◌≡◌, length, option_copied, IfOk};
-ghost use Rattle.macho_image.specs.Refuses.{Refuses};
-ghost use Rattle.nlist_table.specs.Nlists.{nlists_of, indirect_of};
-ghost use Rattle.nlist_table.specs.TableRules.{tables_break, table_break};
+ghost use Rattle.dsc_base.specs.Refusals.{Refuses};
+ghost use Rattle.macho_image.specs.Nlists.{nlists_of, indirect_of};
+ghost use Rattle.macho_image.specs.TableRules.{tables_break, table_break};
 ghost use Rattle.nlist_table.specs.Symbols as spec;
 ghost use Rattle.nlist_table.specs.Kept.{AreTables, LeadAsIn};
 

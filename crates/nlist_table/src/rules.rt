@@ -1,7 +1,7 @@
 // The rules that the tables of a dylib keep.
 ghost use Rattle.std.specs.Prelude.{◌≡◌, position};
-ghost use Rattle.macho_image.specs.Breaks.{broken};
-ghost use Rattle.nlist_table.specs.TableRules as rules;
+ghost use Rattle.dsc_base.specs.Refusals.{broken};
+ghost use Rattle.macho_image.specs.TableRules as rules;
 
 use crate::entry::Entry;
 use crate::kind::{is_alias, is_in_section};

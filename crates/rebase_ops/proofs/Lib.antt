@@ -1,1 +1,2 @@
 pub mod RebaseLaws
+pub mod RiseLaws

@@ -10,18 +10,18 @@ use Rattle.dsc_base.specs.declared.fault.Fault.{Fault}
 use Rattle.dsc_base.specs.declared.fault.Fault.TheVariants.{Broken, Memory}
 use Rattle.dsc_base.specs.declared.rule.Rule.TheVariants.{RebasedTwice}
 use Rattle.macho_image.specs.Records.{Img}
-use Rattle.macho_image.specs.Breaks.{broken}
-use Rattle.macho_image.specs.Refuses.{IsRefusal}
+use Rattle.dsc_base.specs.Refusals.{broken, IsRefusal}
 use Rattle.macho_image.specs.declared.place.Location.{Location}
 use Rattle.macho_image.proofs.Unbroken.{or_none, broken_none}
-use Rattle.word_places.specs.declared.place.PlaceFault.{PlaceFault}
-use Rattle.word_places.specs.Order.{in_address_order, addresses_of, first_close}
-use Rattle.word_places.specs.Places.{record_limit, place_fault, location, IsWord}
-use Rattle.word_places.specs.Streams.{opcodes_of, records, reading_break}
-use Rattle.word_places.proofs.CloseLaws.{close_is, close_spaced, close_sorted, spaced_apart}
-use Rattle.word_places.proofs.OrderLaws.{order_moves, all_in_order, length_in_order, UpFrom, up_from, up_in_order, sum_in_order, same_list}
-use Rattle.word_places.proofs.StreamLaws.{Accepts, HasRead, accepted_records}
-use Rattle.word_places.proofs.WordLaws.{accepted_one}
+use Rattle.macho_image.specs.declared.places.record.PlaceFault.{PlaceFault}
+use Rattle.macho_image.specs.Order.{in_address_order, addresses_of, first_close}
+use Rattle.macho_image.specs.Places.{place_fault, location, IsWord}
+use Rattle.dsc_base.specs.Limits.{record_limit}
+use Rattle.macho_image.specs.Streams.{opcodes_of, records, reading_break}
+use Rattle.macho_image.proofs.CloseLaws.{close_is, close_spaced, close_sorted, spaced_apart}
+use Rattle.macho_image.proofs.OrderLaws.{order_moves, all_in_order, length_in_order, UpFrom, up_from, up_in_order, sum_in_order, same_list}
+use Rattle.macho_image.proofs.StreamLaws.{Accepts, HasRead, accepted_records}
+use Rattle.macho_image.proofs.WordLaws.{accepted_one}
 use Rattle.rebase_ops.specs.declared.opcode.Opcode.{Opcode}
 use Rattle.rebase_ops.specs.declared.opcode.Opcode.TheVariants.{Done, SetPointerType, SetPlace, Advance, Record}
 use Rattle.rebase_ops.specs.declared.run.Cursor.{Cursor}

@@ -6,8 +6,8 @@ use Rattle.dsc_base.specs.declared.rule.Rule.TheVariants.{RebaseBadUleb, RebaseB
 use Rattle.dsc_base.specs.Uleb.{uleb_at}
 use Rattle.rebase_ops.specs.declared.opcode.Opcode.{Opcode}
 use Rattle.rebase_ops.specs.declared.opcode.Opcode.TheVariants.{Done, SetPointerType, SetPlace, Advance, Record}
-use Rattle.word_places.specs.Places.{wrap}
-use Rattle.word_places.specs.Streams.{Spelling}
+use Rattle.macho_image.specs.Places.{wrap}
+use Rattle.macho_image.specs.Streams.{Spelling}
 
 infixl 10 ◌>>=◌
 abbrev pub ◌>>=◌ : {A B : Type 0} → Result A Rule → (A → Result B Rule) → Result B Rule

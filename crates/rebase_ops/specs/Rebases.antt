@@ -6,18 +6,19 @@ use Rattle.dsc_base.specs.declared.fault.Site.{Site}
 use Rattle.dsc_base.specs.declared.rule.Rule.{Rule}
 use Rattle.dsc_base.specs.declared.rule.Rule.TheVariants.{RebaseOutsideSegment, RebaseNotWritable, RebaseOutsideSection, RebaseMisaligned, RebaseCrossesPage, RebaseTooMany, RebasedTwice}
 use Rattle.macho_image.specs.Records.{Img}
-use Rattle.macho_image.specs.Breaks.{broken}
+use Rattle.dsc_base.specs.Refusals.{broken}
 use Rattle.macho_image.specs.declared.place.Location.{Location}
-use Rattle.word_places.specs.declared.place.PlaceFault.{PlaceFault}
-use Rattle.word_places.specs.declared.place.PlaceFault.TheVariants.{OutsideSegment, NotWritable, OutsideSection, Misaligned, CrossesPage, TooMany}
+use Rattle.macho_image.specs.declared.places.record.PlaceFault.{PlaceFault}
+use Rattle.macho_image.specs.declared.places.record.PlaceFault.TheVariants.{OutsideSegment, NotWritable, OutsideSection, Misaligned, CrossesPage, TooMany}
 use Rattle.rebase_ops.specs.declared.opcode.Opcode.{Opcode}
 use Rattle.rebase_ops.specs.declared.opcode.Opcode.TheVariants.{SetPlace, Advance, Record}
 use Rattle.rebase_ops.specs.declared.run.Cursor.{Cursor}
 use Rattle.rebase_ops.specs.Opcodes.{spelling}
-use Rattle.word_places.specs.Order.{in_address_order, addresses_of, first_close}
-use Rattle.word_places.specs.Places.{wrap, record_limit, place_fault, location, IsWord}
-use Rattle.word_places.specs.Runs.{progression}
-use Rattle.word_places.specs.Streams.{opcodes_of, Meaning, records, site_in, reading_break}
+use Rattle.macho_image.specs.Order.{in_address_order, addresses_of, first_close}
+use Rattle.macho_image.specs.Places.{wrap, place_fault, location, IsWord}
+use Rattle.dsc_base.specs.Limits.{record_limit}
+use Rattle.macho_image.specs.Runs.{progression}
+use Rattle.macho_image.specs.Streams.{opcodes_of, Meaning, records, site_in, reading_break}
 
 -- the offsets at which an opcode records, in the segment that is set
 abbrev pub recorded : Cursor → Opcode → List ℕ

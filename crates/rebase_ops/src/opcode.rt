@@ -1,7 +1,7 @@
 // Rebase opcodes, read one at a time.
 ghost use Rattle.std.specs.Prelude.{◌≡◌, ◌<◌, ◌≤◌, ◌+◌, length, IfOk};
 ghost use Rattle.rebase_ops.specs.Opcodes.{operand_at, opcode_at, opcode_with};
-ghost use Rattle.word_places.specs.Places.{wrap};
+ghost use Rattle.macho_image.specs.Places.{wrap};
 
 use dsc_base::{Rule, read_uleb};
 

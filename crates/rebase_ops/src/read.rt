@@ -1,16 +1,15 @@
 // A rebase stream read whole.
 ghost use Rattle.std.specs.Prelude.{◌≡◌, IfOk};
-ghost use Rattle.macho_image.specs.Refuses.{Refuses};
-ghost use Rattle.word_places.specs.Streams.{opcodes_of, records, reading_break};
+ghost use Rattle.dsc_base.specs.Refusals.{Refuses};
+ghost use Rattle.macho_image.specs.Streams.{opcodes_of, records, reading_break};
 ghost use Rattle.rebase_ops.specs.Opcodes.{spelling};
 ghost use Rattle.rebase_ops.specs.Rebases as spec;
 
 use crate::opcode::{Opcode, read_opcode};
 use crate::run::{Cursor, apply};
 use dsc_base::{Fault, Rule, Site};
-use macho_image::{Image, Location};
+use macho_image::{Image, Location, first_close};
 use std::alloc::Global;
-use word_places::first_close;
 
 // The locations in reading order.
 fn read_stream(alloc: Global, stream: &[u8], image: &Image<'_>) -> Result<Vec<Location>, Fault>

@@ -1,14 +1,13 @@
 // What one opcode records, and where the next one begins.
 ghost use Rattle.std.specs.Prelude.{◌≡◌, ◌++◌, ◌+◌, ◌*◌, length, map, option_map, IfOk, OnOk};
-ghost use Rattle.macho_image.specs.Refuses.{Refuses};
-ghost use Rattle.word_places.specs.Places.{wrap, location, unless};
-ghost use Rattle.word_places.specs.Runs.{progression, first_fault};
+ghost use Rattle.dsc_base.specs.Refusals.{Refuses};
+ghost use Rattle.macho_image.specs.Places.{wrap, location, unless};
+ghost use Rattle.macho_image.specs.Runs.{progression, first_fault};
 ghost use Rattle.rebase_ops.specs.Rebases.{recorded, moved, rule_of, record_fault, site_of};
 
 use crate::opcode::Opcode;
 use dsc_base::{Fault, Rule, Site};
-use macho_image::{Image, Location};
-use word_places::{PlaceFault, locate};
+use macho_image::{Image, Location, PlaceFault, locate};
 
 /// The segment that is set, and the offset of the next record from its start.
 #[derive(Clone, Copy)]

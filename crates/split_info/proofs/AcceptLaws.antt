@@ -1,8 +1,8 @@
 -- What is true of the references that are accepted.
 use Rattle.std.proofs.Common.{◌≡◌, ◌≤◌, ◌<◌, ◌+◌, ◌-◌, ℕ, zero, suc, Bool, true, false, not, ◌&&◌, ◌||◌, cond, List, [], ◌∷◌, map, filter, length, get_or, refl, sym, ap, ◌∙◌, subst, arith, nat_eq, nat_le, nat_lt, if◌then◌else◌, inl, inr, Option, Some, None, true≢false}
 use Rattle.std.specs.Prelude.{option_map, slice_get, count_by, All, Result, Ok, Err}
-use Rattle.std.specs.List.{AllPairs}
-use Rattle.std.specs.Option.{option_or}
+use Rattle.std.specs.List.{AllPairs, position}
+use Rattle.std.specs.Option.{option_or, option_and_then}
 use Rattle.std.proofs.lemmas.Bool.{cases_Bool}
 use Rattle.std.proofs.lemmas.Bool.Decides.{nat_tests}
 use Rattle.std.proofs.lemmas.List.Elements.{All-nil, All-cons}
@@ -12,17 +12,19 @@ use Rattle.dsc_base.specs.declared.rule.Rule.TheVariants.{SplitPointerNotRebased
 use Rattle.dsc_base.specs.Uleb.{uleb_at}
 use Rattle.macho_image.specs.Records.{Img, Seg}
 use Rattle.macho_image.specs.Breaks.{IsSound}
-use Rattle.macho_image.specs.Rules.{least}
+use Rattle.dsc_base.specs.Refusals.{least}
 use Rattle.macho_image.specs.declared.section.Section.{Section}
 use Rattle.macho_image.specs.declared.place.Location.{Location}
-use Rattle.word_places.specs.Places.{wrap}
+use Rattle.macho_image.specs.Places.{wrap, numbered_section}
+use Rattle.macho_image.specs.Segments.{is_text_segment}
 use Rattle.split_info.specs.declared.reference.RefKind.{RefKind}
 use Rattle.split_info.specs.declared.reference.Reference.{Reference}
 use Rattle.split_info.specs.declared.extent.Extent.{Extent}
 use Rattle.split_info.specs.declared.extent.Target.{Target}
-use Rattle.split_info.specs.References.{kind_of, width_of, section_numbered, from_section, header_section, to_section, target_in, reference_in}
+use Rattle.split_info.specs.References.{kind_of, width_of, section_numbered, from_section, segment_section, header_section, to_section, target_in, reference_in}
 use Rattle.split_info.specs.Stream.{Spelled, End, Refused, Next, read, number, known, offsets, groups, targets, pairs, spelled}
-use Rattle.split_info.specs.Split.{record_limit, is_unsplit, spelled_of, references, references_of, is_rebased, reference_fault, site_at, reading_break, IsReference, AreReferences}
+use Rattle.split_info.specs.Split.{is_unsplit, spelled_of, references, references_of, is_rebased, reference_fault, site_at, reading_break, IsReference, AreReferences}
+use Rattle.dsc_base.specs.Limits.{record_limit}
 use Rattle.split_info.specs.Overlap.{is_pointer, meets, strays, overlaps, overlap_at, lowest}
 use Rattle.split_info.proofs.CountLaws.{two_counted}
 use Rattle.split_info.proofs.OverlapLaws.{from_of, lowest_of, meets_itself}
@@ -38,44 +40,45 @@ pub record IsKnown (image : Img) (e : Extent) : Type 0 where
   pub address : e.address ≡ section.addr
   pub size : e.size ≡ section.size
 
-from_known : (image : Img) (n : ℕ) (e : Extent) → from_section image n ≡ Some e → IsKnown image e
-from_known image n e is = elim (cases_Bool (nat_eq n 0)) [
-  | inl none ↦ let e : None ≡ Some e = sym (turned true none) ∙ is in absurd (cc)
-  | inr some ↦ found (slice_get image.sections (n - 1)) refl (sym (turned false some) ∙ is)
-]
-  where
-    turned : (b : Bool) → nat_eq n 0 ≡ b → from_section image n ≡ (if b then None else option_map (λ (x : Section). record { number = n; segment = x.segment; address = x.addr; size = x.size }) (slice_get image.sections (n - 1)))
-    turned b e = ap (λ (c : Bool). if c then None else option_map (λ (x : Section). record { number = n; segment = x.segment; address = x.addr; size = x.size }) (slice_get image.sections (n - 1))) e
+abbrev extent_of : ℕ → Section → Extent
+extent_of n x = record { number = n; segment = x.segment; address = x.addr; size = x.size }
 
-    found : (o : Option Section) → slice_get image.sections (n - 1) ≡ o → option_map (λ (x : Section). record { number = n; segment = x.segment; address = x.addr; size = x.size }) o ≡ Some e → IsKnown image e
-    found None there same = absurd (cc)
-    found (Some x) there same =
-        let one : Extent = record { number = n; segment = x.segment; address = x.addr; size = x.size } in
-        let back : e ≡ one = cc in
+from_known : (image : Img) (n : ℕ) (e : Extent) → from_section image n ≡ Some e → IsKnown image e
+from_known image n e is = found (nat_eq n 0) (slice_get image.sections (n - 1)) refl is
+  where
+    found : (b : Bool) (o : Option Section) → slice_get image.sections (n - 1) ≡ o → option_map (extent_of n) (if b then None else o) ≡ Some e → IsKnown image e
+    found true o there same = absurd (cc)
+    found false None there same = absurd (cc)
+    found false (Some x) there same =
+        let back : e ≡ extent_of n x = cc in
         record { section = x; index = n - 1; section_is = there; segment = ap (λ (f : Extent). f.segment) back; address = ap (λ (f : Extent). f.address) back; size = ap (λ (f : Extent). f.size) back }
 
 -- a section is known by its own number
 to_number : (image : Img) (n : ℕ) (e : Extent) → to_section image n ≡ Some e → to_section image e.number ≡ Some e
 to_number image n e is = elim (cases_Bool (nat_eq n 0)) [
-  | inl none ↦ header (slice_get image.segments 0) refl (sym (ap (λ (b : Bool). if b then header_section image.segments else section_numbered image.sections n) none) ∙ is)
-  | inr some ↦ numbered (slice_get image.sections (n - 1)) refl
-      (sym (ap (λ (b : Bool). if b then None else option_map (λ (x : Section). record { number = n; segment = x.segment; address = x.addr; size = x.size }) (slice_get image.sections (n - 1))) some)
-      ∙ (sym (ap (λ (b : Bool). if b then header_section image.segments else section_numbered image.sections n) some) ∙ is))
+  | inl none ↦ header (position is_text_segment image.segments) refl (sym (turned true none) ∙ is)
+  | inr some ↦ numbered (numbered_section image.sections n) (sym (turned false some) ∙ is)
 ]
   where
-    header : (o : Option Seg) → slice_get image.segments 0 ≡ o → option_map (λ (s : Seg). record { number = 0; segment = 0; address = s.vmaddr; size = s.vmsize }) o ≡ Some e → to_section image e.number ≡ Some e
-    header None there same = absurd (cc)
-    header (Some s) there same =
-        let one : Extent = record { number = 0; segment = 0; address = s.vmaddr; size = s.vmsize } in
-        let back : e ≡ one = cc in
-        ap (λ (k : ℕ). to_section image k) (ap (λ (f : Extent). f.number) back)
-        ∙ (ap (λ (o : Option Seg). option_map (λ (s : Seg). record { number = 0; segment = 0; address = s.vmaddr; size = s.vmsize }) o) there ∙ same)
+    turned : (b : Bool) → nat_eq n 0 ≡ b → to_section image n ≡ (if b then header_section image.segments else section_numbered image.sections n)
+    turned b e = ap (λ (c : Bool). if c then header_section image.segments else section_numbered image.sections n) e
 
-    numbered : (o : Option Section) → slice_get image.sections (n - 1) ≡ o → option_map (λ (x : Section). record { number = n; segment = x.segment; address = x.addr; size = x.size }) o ≡ Some e → to_section image e.number ≡ Some e
-    numbered None there same = absurd (cc)
-    numbered (Some x) there same =
-        let one : Extent = record { number = n; segment = x.segment; address = x.addr; size = x.size } in
-        let back : e ≡ one = cc in
+    header : (o : Option ℕ) → position is_text_segment image.segments ≡ o → option_and_then (segment_section image.segments) o ≡ Some e → to_section image e.number ≡ Some e
+    header None there same = absurd (cc)
+    header (Some g) there same = segment g (slice_get image.segments g) refl (ap (option_and_then (segment_section image.segments)) there ∙ same) same
+      where
+        segment : (g : ℕ) (o : Option Seg) → slice_get image.segments g ≡ o → header_section image.segments ≡ Some e
+            → option_map (λ (s : Seg). record { number = 0; segment = g; address = s.vmaddr; size = s.vmsize }) o ≡ Some e → to_section image e.number ≡ Some e
+        segment g None at own same = absurd (cc)
+        segment g (Some s) at own same =
+            let one : Extent = record { number = 0; segment = g; address = s.vmaddr; size = s.vmsize } in
+            let back : e ≡ one = cc in
+            ap (λ (k : ℕ). to_section image k) (ap (λ (f : Extent). f.number) back) ∙ own
+
+    numbered : (o : Option Section) → option_map (extent_of n) o ≡ Some e → to_section image e.number ≡ Some e
+    numbered None same = absurd (cc)
+    numbered (Some x) same =
+        let back : e ≡ extent_of n x = cc in
         ap (λ (k : ℕ). to_section image k) (ap (λ (f : Extent). f.number) back) ∙ is
 
 -- what is true of one of them by its place in the stream

@@ -8,7 +8,7 @@ use Rattle.std.proofs.lemmas.List.{get_or_read, get_or_default}
 use Rattle.std.proofs.lemmas.List.Elements.{All-tail, filter_agree}
 use Rattle.std.proofs.lemmas.List.Sorted.{IsPermutation-sym, All-permutation, Contains-permutation, sum_by-IsPermutation, list_any-IsPermutation}
 use Rattle.std.proofs.lemmas.Option.{slice_get_within, get_or_from_slice_get, slice_get-get_or}
-use Rattle.macho_image.specs.Rules.{least}
+use Rattle.dsc_base.specs.Refusals.{least}
 use Rattle.macho_image.specs.declared.place.Location.{Location}
 use Rattle.split_info.specs.declared.reference.RefKind.{RefKind}
 use Rattle.split_info.specs.declared.reference.RefKind.TheVariants.{Pointer64, Delta32, Delta64, ImageOff32}

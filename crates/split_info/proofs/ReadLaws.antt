@@ -7,8 +7,7 @@ use Rattle.dsc_base.specs.declared.fault.Fault.{Fault}
 use Rattle.dsc_base.specs.declared.fault.Fault.TheVariants.{Broken, Memory}
 use Rattle.dsc_base.specs.declared.rule.Rule.TheVariants.{NoSplitInfo, SplitNotV2, SplitOverlap}
 use Rattle.macho_image.specs.Records.{Img}
-use Rattle.macho_image.specs.Breaks.{broken}
-use Rattle.macho_image.specs.Refuses.{IsRefusal, Refuses}
+use Rattle.dsc_base.specs.Refusals.{broken, IsRefusal, Refuses}
 use Rattle.macho_image.specs.declared.place.Location.{Location}
 use Rattle.split_info.specs.declared.reference.Reference.{Reference}
 use Rattle.split_info.specs.Stream.{Spelled, End, Refused, number, pairs, spelled}

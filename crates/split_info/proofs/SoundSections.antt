@@ -11,9 +11,10 @@ use Rattle.macho_image.specs.Records.{Img, Seg, SegmentLoad, SectionLoad}
 use Rattle.macho_image.specs.declared.section.Section.{Section}
 use Rattle.macho_image.specs.Macho.{header_size, loads_of, segment_loads, segment_with, section_of, sections_from}
 use Rattle.macho_image.specs.Rules.{first_segment, is_text, sections_stand, sections_start, first_crowded, breaks_segment_shape, breaks_segment_prot, breaks_section_shape, breaks_interposing, breaks_has_relocations}
-use Rattle.macho_image.specs.Breaks.{broken, first_break, kind_break, command_break, header_break, section_break, name_break, form_of, unread, IsSound}
+use Rattle.macho_image.specs.Breaks.{kind_break, command_break, header_break, section_break, name_break, form_of, unread, IsSound}
+use Rattle.dsc_base.specs.Refusals.{broken, first_break}
 use Rattle.macho_image.proofs.Unbroken.{or_none, broken_none, least_none_both}
-use Rattle.word_places.proofs.SoundSegments.{segments_low}
+use Rattle.macho_image.proofs.SoundSegments.{segments_low}
 
 -- a section lies in the segment of its number
 pub record IsInside (image : Img) (x : Section) : Type 0 where

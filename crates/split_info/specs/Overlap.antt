@@ -1,7 +1,7 @@
 -- References that share a byte with one another or with a word.
 use Rattle.std.specs.Prelude.{ℕ, ◌+◌, Bool, true, false, not, ◌&&◌, ◌||◌, nat_lt, List, [], ◌∷◌, map, filter, Option, Some, None, count_by}
 use Rattle.std.specs.List.{list_any}
-use Rattle.macho_image.specs.Rules.{least}
+use Rattle.dsc_base.specs.Refusals.{least}
 use Rattle.macho_image.specs.declared.place.Location.{Location}
 use Rattle.split_info.specs.declared.reference.RefKind.{RefKind}
 use Rattle.split_info.specs.declared.reference.RefKind.TheVariants.{Pointer64}

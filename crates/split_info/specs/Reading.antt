@@ -1,7 +1,7 @@
 -- What is true between the reading of a part of a stream and of the rest of it.
 use Rattle.std.specs.Prelude.{◌≡◌, ℕ, List, ◌++◌, length}
 use Rattle.dsc_base.specs.declared.fault.Fault.{Fault}
-use Rattle.macho_image.specs.Refuses.{IsRefusal}
+use Rattle.dsc_base.specs.Refusals.{IsRefusal}
 use Rattle.macho_image.specs.declared.place.Location.{Location}
 use Rattle.split_info.specs.declared.reference.Reference.{Reference}
 use Rattle.split_info.specs.Stream.{Spelled}

@@ -1,8 +1,11 @@
 -- References and the sections that they name, after DYLD_CACHE_ADJ_V2 of Apple's published linker and cache builder.
 use Rattle.std.specs.Prelude.{ℕ, ◌+◌, ◌-◌, nat_eq, nat_le, if◌then◌else◌, List, Option, Some, None, option_map, slice_get}
+use Rattle.std.specs.List.{position}
+use Rattle.std.specs.Option.{option_and_then}
 use Rattle.macho_image.specs.Records.{Img, Seg}
 use Rattle.macho_image.specs.declared.section.Section.{Section}
-use Rattle.word_places.specs.Places.{wrap}
+use Rattle.macho_image.specs.Places.{wrap, numbered_section}
+use Rattle.macho_image.specs.Segments.{is_text_segment}
 use Rattle.split_info.specs.declared.reference.RefKind.{RefKind}
 use Rattle.split_info.specs.declared.reference.RefKind.TheVariants.{Pointer64, Delta32, Delta64, ImageOff32}
 use Rattle.split_info.specs.declared.reference.Reference.{Reference}
@@ -25,15 +28,17 @@ width_of ImageOff32 = 4
 
 -- sections count from 1
 abbrev pub section_numbered : List Section → ℕ → Option Extent
-section_numbered xs number =
-    if nat_eq number 0 then None else option_map (λ (x : Section). record { number = number; segment = x.segment; address = x.addr; size = x.size }) (slice_get xs (number - 1))
+section_numbered xs number = option_map (λ (x : Section). record { number = number; segment = x.segment; address = x.addr; size = x.size }) (numbered_section xs number)
 
 abbrev pub from_section : Img → ℕ → Option Extent
 from_section image number = section_numbered image.sections number
 
--- To-section 0 is the Mach header, seen as a section at the start of `__TEXT`, an image's first segment, with that segment's size.
+-- to-section 0 is the Mach header, seen as a section at the start of the segment `__TEXT`, by that name, with that segment's size
+abbrev pub segment_section : List Seg → ℕ → Option Extent
+segment_section ss g = option_map (λ (s : Seg). record { number = 0; segment = g; address = s.vmaddr; size = s.vmsize }) (slice_get ss g)
+
 abbrev pub header_section : List Seg → Option Extent
-header_section ss = option_map (λ (s : Seg). record { number = 0; segment = 0; address = s.vmaddr; size = s.vmsize }) (slice_get ss 0)
+header_section ss = option_and_then (segment_section ss) (position is_text_segment ss)
 
 abbrev pub to_section : Img → ℕ → Option Extent
 to_section image number = if nat_eq number 0 then header_section image.segments else section_numbered image.sections number

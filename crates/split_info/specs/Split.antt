@@ -7,7 +7,7 @@ use Rattle.dsc_base.specs.declared.rule.Rule.{Rule}
 use Rattle.dsc_base.specs.declared.rule.Rule.TheVariants.{NoSplitInfo, SplitPointerNotRebased, SplitTooMany, SplitOverlap}
 use Rattle.macho_image.specs.Records.{Img, Seg}
 use Rattle.macho_image.specs.Rules.{is_linkedit_segment}
-use Rattle.macho_image.specs.Breaks.{broken}
+use Rattle.dsc_base.specs.Refusals.{broken}
 use Rattle.macho_image.specs.declared.section.Section.{Section}
 use Rattle.macho_image.specs.declared.place.Location.{Location}
 use Rattle.split_info.specs.declared.reference.Reference.{Reference}
@@ -15,10 +15,7 @@ use Rattle.split_info.specs.declared.extent.Extent.{Extent}
 use Rattle.split_info.specs.References.{width_of, to_section}
 use Rattle.split_info.specs.Stream.{Spelled, End, Refused, Next, spelled}
 use Rattle.split_info.specs.Overlap.{is_pointer, meets, strays, overlap_at}
-
--- the most references of an image
-abbrev pub record_limit : ℕ
-record_limit = 1_048_576
+use Rattle.dsc_base.specs.Limits.{record_limit}
 
 -- rule 101: segments besides `__LINKEDIT` can move apart, and no command tells what leads from one to another
 abbrev pub is_unsplit : Img → Bool

@@ -3,7 +3,7 @@ ghost use Rattle.std.specs.Prelude.{◌≡◌, ◌<◌, ◌+◌, ◌^◌, length
 ghost use Rattle.split_info.specs.References as spec;
 
 use crate::{RefKind, Reference};
-use macho_image::{Image, Section, Segment};
+use macho_image::{Image, Section, Segment, text_number};
 
 /// A section by its number, which is 0 for the Mach header: its segment, its address and its size.
 #[derive(Clone, Copy)]
@@ -43,16 +43,25 @@ pub(crate) fn from_section(image: &Image<'_>, number: u64) -> Option<Extent>
     section_numbered(&image.sections, number)
 }
 
-fn header_section(segments: &[Segment<'_>]) -> Option<Extent>
-    ensures { result ≡ spec.header_section segments.now }
+// The Mach header, as a section that is all of a segment.
+fn segment_section(segments: &[Segment<'_>], number: u32) -> Option<Extent>
+    ensures { result ≡ spec.segment_section segments.now number }
 {
-    let text = segments.first()?;
+    let text = segments.get(number as usize)?;
     Some(Extent {
         number: 0,
-        segment: 0,
+        segment: number,
         address: text.vmaddr,
         size: text.vmsize,
     })
+}
+
+fn header_section(image: &Image<'_>) -> Option<Extent>
+    ensures { result ≡ spec.header_section image.now.segments }
+{
+    image.facts();
+    let number = text_number(&image.segments)?;
+    segment_section(&image.segments, number as u32)
 }
 
 /// The section to which references lead, by its number, which is 0 for the Mach header.
@@ -60,7 +69,7 @@ pub(crate) fn to_section(image: &Image<'_>, number: u64) -> Option<Extent>
     ensures { result ≡ spec.to_section image.now number }
 {
     if number == 0 {
-        header_section(&image.segments)
+        header_section(image)
     } else {
         from_section(image, number)
     }

@@ -1,7 +1,7 @@
 // The split-segment information of an image read whole.
 ghost use Rattle.std.specs.Prelude.{◌≡◌, ◌≤◌, true, nat_eq, slice_index, option_copied, length, IfOk};
 ghost use Rattle.std.specs.List.Sorted.{IsNonDecreasingBy};
-ghost use Rattle.macho_image.specs.Refuses.{Refuses};
+ghost use Rattle.dsc_base.specs.Refusals.{Refuses};
 ghost use Rattle.split_info.specs.Stream.{spelled};
 ghost use Rattle.split_info.specs.Split as spec;
 ghost use Rattle.split_info.specs.Split.{AreReferences};

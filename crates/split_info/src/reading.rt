@@ -7,11 +7,8 @@ ghost use Rattle.split_info.specs.Reading.{ReadsTo, RefusesPart};
 use crate::extent::{Extent, Target, from_section, reference_in, target_in, to_section};
 use crate::words::Words;
 use crate::{RefKind, Reference};
-use dsc_base::{Fault, Rule, Site, read_uleb};
+use dsc_base::{Fault, RECORD_LIMIT, Rule, Site, read_uleb};
 use macho_image::Image;
-
-/// The most references of an image.
-const RECORD_LIMIT: usize = 1_048_576;
 
 /// A stream, and the rebases of its image.
 #[derive(Drop)]

@@ -1,5 +1,5 @@
 use Rattle.std.proofs.Common.{◌≡◌, take}
-use Rattle.word_places.specs.Order.{addresses_of}
+use Rattle.macho_image.specs.Order.{addresses_of}
 use Rattle.bind_ops.proofs.clash.rebased_addresses.Given as goal
 
 abbrev pub invariant-loop-rebase : goal.invariant-loop-rebase

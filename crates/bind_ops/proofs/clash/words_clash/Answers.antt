@@ -1,5 +1,5 @@
 use Rattle.std.proofs.Common.{◌++◌, Some, None}
-use Rattle.word_places.specs.Order.{addresses_of}
+use Rattle.macho_image.specs.Order.{addresses_of}
 use Rattle.bind_ops.specs.Binds.{places_of}
 use Rattle.bind_ops.proofs.ClashLaws.{ascending, ascending_alone, clash_least}
 use Rattle.bind_ops.proofs.clash.words_clash.Goals as goal

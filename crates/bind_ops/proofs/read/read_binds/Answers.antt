@@ -3,8 +3,8 @@ use Rattle.std.specs.List.Sorted.{IsPermutation}
 use Rattle.dsc_base.specs.declared.fault.Site.{Site}
 use Rattle.dsc_base.specs.declared.rule.Rule.{Rule}
 use Rattle.macho_image.specs.declared.place.Location.{Location}
-use Rattle.word_places.specs.Order.{addresses_of, first_close}
-use Rattle.word_places.proofs.StreamLaws.{refuses_on}
+use Rattle.macho_image.specs.Order.{addresses_of, first_close}
+use Rattle.macho_image.proofs.StreamLaws.{refuses_on}
 use Rattle.bind_ops.specs.Binds.{places_of, bind_break}
 use Rattle.bind_ops.specs.Records.{BoundWord}
 use Rattle.bind_ops.proofs.BindLaws.{last_break, read_found, read_sound, read_fault}

@@ -1,6 +1,6 @@
 use Rattle.std.proofs.Common.{sym, ◌∙◌}
-use Rattle.word_places.specs.Streams.{opcodes_of, site_in, reading_break}
-use Rattle.word_places.proofs.StreamLaws.{reading_start, reading_step, reading_fault, reading_refused, reading_done, reading_end, refuses_on}
+use Rattle.macho_image.specs.Streams.{opcodes_of, site_in, reading_break}
+use Rattle.macho_image.proofs.StreamLaws.{reading_start, reading_step, reading_fault, reading_refused, reading_done, reading_end, refuses_on}
 use Rattle.bind_ops.specs.Binds.{start, meaning}
 use Rattle.bind_ops.specs.Faults.{rule_in}
 use Rattle.bind_ops.specs.Opcodes.{spelling}

@@ -1,8 +1,8 @@
 use Rattle.std.proofs.Common.{◌+◌, ◌%◌, ◌^◌, ◌∙◌, length, refl, sym, ap, Option, arith}
 use Rattle.std.specs.Prelude.{option_map}
-use Rattle.word_places.specs.Runs.{progression, first_fault}
-use Rattle.word_places.specs.Streams.{site_in}
-use Rattle.word_places.proofs.RunLaws.{running_start, running_step, running_fault}
+use Rattle.macho_image.specs.Runs.{progression, first_fault}
+use Rattle.macho_image.specs.Streams.{site_in}
+use Rattle.macho_image.proofs.RunLaws.{running_start, running_step, running_fault}
 use Rattle.bind_ops.specs.declared.fault.BindFault.{BindFault}
 use Rattle.bind_ops.specs.Binds.{bound_at, record_fault}
 use Rattle.bind_ops.specs.Faults.{rule_in}

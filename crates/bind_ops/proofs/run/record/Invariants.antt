@@ -1,4 +1,4 @@
-use Rattle.word_places.proofs.RunLaws.{Running}
+use Rattle.macho_image.proofs.RunLaws.{Running}
 use Rattle.bind_ops.specs.Binds.{bound_at, record_fault}
 use Rattle.bind_ops.proofs.run.record.Given as goal
 

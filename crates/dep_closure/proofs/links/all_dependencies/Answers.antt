@@ -1,6 +1,6 @@
 use Rattle.std.proofs.Common.{ap, subst, List}
 use Rattle.macho_image.specs.Records.{Img}
-use Rattle.macho_image.specs.Refuses.{IsRefusal}
+use Rattle.dsc_base.specs.Refusals.{IsRefusal}
 use Rattle.dep_closure.specs.Breaks.{image_break}
 use Rattle.dep_closure.proofs.LinkLaws.{items_of, unbroken_start, unbroken_refused}
 use Rattle.std.specs.Prelude.{map}
@@ -16,4 +16,4 @@ pub returns-in-Err-clause-cause : goal.returns-in-Err-clause-cause
 returns-in-Err-clause-cause c =
     unbroken_refused c.args.images.now c.loop-number.number c.index-images-number.result c.in-Err.fault c.loop-number.invariant.unbroken c.loop-number-test.true c.index-images-number.is
     (subst (λ (names : List Img). IsRefusal (image_break names c.loop-number.number c.index-images-number.result) c.in-Err.fault) c.requires.same c.in-Err.ensures.cause)
-    c.of_image.result c.of_image.ensures
+    c.in_image.result c.in_image.ensures

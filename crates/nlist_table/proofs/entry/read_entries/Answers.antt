@@ -1,5 +1,5 @@
 use Rattle.std.proofs.Common.{◌*◌}
-use Rattle.nlist_table.specs.Nlists.{nlist_at}
+use Rattle.macho_image.specs.Nlists.{nlist_at}
 use Rattle.nlist_table.proofs.ListLaws.{made_more}
 use Rattle.nlist_table.proofs.entry.read_entries.Goals as goal
 

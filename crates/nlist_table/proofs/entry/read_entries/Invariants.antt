@@ -1,6 +1,6 @@
 use Rattle.std.proofs.Common.{◌≡◌, ◌*◌, map}
 use Rattle.std.specs.List.{range_with_len}
-use Rattle.nlist_table.specs.Nlists.{nlist_at}
+use Rattle.macho_image.specs.Nlists.{nlist_at}
 use Rattle.nlist_table.proofs.entry.read_entries.Given as goal
 
 abbrev pub invariant-loop-k : goal.invariant-loop-k

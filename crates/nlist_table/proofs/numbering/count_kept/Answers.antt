@@ -1,5 +1,5 @@
 use Rattle.std.proofs.Common.{◌≡◌, ◌+◌, true, false, ap, arith}
-use Rattle.nlist_table.specs.Nlists.{Nlist}
+use Rattle.macho_image.specs.Nlists.{Nlist}
 use Rattle.nlist_table.proofs.CountLaws.{kept_more, counted_more}
 use Rattle.nlist_table.proofs.numbering.count_kept.Goals as goal
 use Rattle.nlist_table.proofs.numbering.count_kept.Goals.{then-not-is_stab, else-not-is_stab}

@@ -1,6 +1,6 @@
 use Rattle.std.proofs.Common.{sym, ◌∙◌}
-use Rattle.nlist_table.specs.Nlists.{nlists_of, indirect_of}
-use Rattle.nlist_table.specs.TableRules.{tables_break, table_break}
+use Rattle.macho_image.specs.Nlists.{nlists_of, indirect_of}
+use Rattle.macho_image.specs.TableRules.{tables_break, table_break}
 use Rattle.nlist_table.proofs.BreakLaws.{refuses_on}
 use Rattle.nlist_table.proofs.KeptLaws.{parts_are, parts_tables, parts_break, image_tables, image_leads}
 use Rattle.nlist_table.proofs.read.read_tables.Goals as goal

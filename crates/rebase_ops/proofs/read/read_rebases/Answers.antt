@@ -2,9 +2,9 @@ use Rattle.std.proofs.Common.{rules, List, subst, sym, ap, ◌∙◌}
 use Rattle.std.specs.List.Sorted.{IsNonDecreasingBy}
 use Rattle.std.proofs.lemmas.List.Sorted.{IsNonDecreasingBy-from_sort_by_key}
 use Rattle.macho_image.specs.declared.place.Location.{Location}
-use Rattle.word_places.specs.Order.{addresses_of, first_close}
+use Rattle.macho_image.specs.Order.{addresses_of, first_close}
 use Rattle.rebase_ops.specs.Rebases.{rebase_break}
-use Rattle.word_places.proofs.StreamLaws.{refuses_on}
+use Rattle.macho_image.proofs.StreamLaws.{refuses_on}
 use Rattle.rebase_ops.proofs.RebaseLaws.{sorted_read, read_close, read_apart, read_found, read_sound, read_fault}
 use Rattle.rebase_ops.proofs.read.read_rebases.Goals as goal
 

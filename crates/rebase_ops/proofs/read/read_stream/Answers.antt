@@ -1,6 +1,6 @@
 use Rattle.std.proofs.Common.{refl, ap}
-use Rattle.word_places.specs.Streams.{opcodes_of, reading_break}
-use Rattle.word_places.proofs.StreamLaws.{reading_start, reading_step, reading_fault, reading_refused, reading_done, reading_end, refuses_on}
+use Rattle.macho_image.specs.Streams.{opcodes_of, reading_break}
+use Rattle.macho_image.proofs.StreamLaws.{reading_start, reading_step, reading_fault, reading_refused, reading_done, reading_end, refuses_on}
 use Rattle.rebase_ops.specs.Opcodes.{spelling, ends}
 use Rattle.rebase_ops.specs.Rebases.{start, meaning}
 use Rattle.rebase_ops.proofs.RebaseLaws.{goes_on}

@@ -1,5 +1,5 @@
 use Rattle.std.proofs.Common.{◌-◌, length}
-use Rattle.word_places.proofs.StreamLaws.{Reading}
+use Rattle.macho_image.proofs.StreamLaws.{Reading}
 use Rattle.rebase_ops.specs.Opcodes.{spelling}
 use Rattle.rebase_ops.specs.Rebases.{start, meaning}
 use Rattle.rebase_ops.proofs.read.read_stream.Given as goal

@@ -1,8 +1,8 @@
 use Rattle.std.proofs.Common.{◌+◌, ◌%◌, ◌^◌, ◌∙◌, refl, ap, Option, arith}
 use Rattle.std.specs.Prelude.{option_map}
 use Rattle.dsc_base.specs.declared.rule.Rule.{Rule}
-use Rattle.word_places.specs.Places.{location}
-use Rattle.word_places.proofs.RunLaws.{running_start, running_step, running_fault}
+use Rattle.macho_image.specs.Places.{location}
+use Rattle.macho_image.proofs.RunLaws.{running_start, running_step, running_fault}
 use Rattle.rebase_ops.specs.Rebases.{record_fault, site_of}
 use Rattle.rebase_ops.proofs.run.record.Goals as goal
 

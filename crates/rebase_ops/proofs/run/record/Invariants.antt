@@ -1,5 +1,5 @@
-use Rattle.word_places.specs.Places.{location}
-use Rattle.word_places.proofs.RunLaws.{Running}
+use Rattle.macho_image.specs.Places.{location}
+use Rattle.macho_image.proofs.RunLaws.{Running}
 use Rattle.rebase_ops.specs.Rebases.{record_fault}
 use Rattle.rebase_ops.proofs.run.record.Given as goal
 

@@ -1,6 +1,6 @@
 use Rattle.std.proofs.Common.{length, ap, ◌∙◌, arith}
 use Rattle.macho_image.specs.Records.{Img}
-use Rattle.word_places.proofs.SectionLaws.{few_sections}
+use Rattle.macho_image.proofs.SectionLaws.{few_sections}
 use Rattle.split_info.proofs.extent.from_section.Goals as goal
 
 pub section_numbered-requires : goal.section_numbered-requires

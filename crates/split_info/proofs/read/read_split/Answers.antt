@@ -1,7 +1,7 @@
 use Rattle.std.proofs.Common.{List, Some, None, sym, ◌∙◌, subst}
 use Rattle.std.specs.Prelude.{option_copied}
 use Rattle.macho_image.specs.declared.place.Location.{Location}
-use Rattle.macho_image.specs.Refuses.{IsRefusal}
+use Rattle.dsc_base.specs.Refusals.{IsRefusal}
 use Rattle.split_info.specs.declared.reference.Reference.{Reference}
 use Rattle.split_info.specs.Split.{spelled_of, reading_break, split_break, AreReferences}
 use Rattle.split_info.proofs.ReadLaws.{refuses_on, reading_refused, overlap_is, overlap_read, reading_kept}

@@ -1,5 +1,5 @@
 use Rattle.std.proofs.Common.{◌≡◌, ◌∙◌, false, arith, sym}
-use Rattle.nlist_table.specs.Nlists.{is_flag}
+use Rattle.macho_image.specs.Nlists.{is_flag}
 use Rattle.nlist_table.proofs.CountLaws.{length-indices, index_read, kept_before-le}
 use Rattle.nlist_table.proofs.KeptLaws.{index_is}
 use Rattle.nlist_table.proofs.numbering.Numbering.renumber.Goals as goal
