@@ -1,5 +1,5 @@
 -- No two words of an image have one address.
-use Rattle.std.proofs.Common.{◌≡◌, ◌<◌, ◌≤◌, ◌+◌, ℕ, zero, suc, Bool, true, false, not, nat_eq, List, [], ◌∷◌, ◌++◌, length, map, filter, get_or, refl, sym, ap, subst, ◌∙◌, arith, if◌then◌else◌, inl, inr, Option, Contains}
+use Rattle.std.proofs.Common.{◌≡◌, ◌<◌, ◌≤◌, ◌+◌, ℕ, zero, suc, Bool, true, false, not, nat_eq, List, [], ◌∷◌, ◌++◌, length, map, filter, get_or, refl, sym, ap, subst, ◌∙◌, arith, if◌then◌else◌, inl, inr, Option, Contains, ◌||◌}
 use Rattle.std.specs.List.{sum_by, AllPairs}
 use Rattle.std.specs.List.Sorted.{IsPermutation, IsNonDecreasingBy}
 use Rattle.std.proofs.lemmas.Bool.{false≢true, cond-true, cond-false, cases_Bool, cases_lt}
@@ -8,7 +8,7 @@ use Rattle.std.proofs.lemmas.List.Sums.{sum_by-cons, sum_by-append}
 use Rattle.std.proofs.lemmas.List.Sorted.{sum_by-IsPermutation}
 use Rattle.macho_image.specs.Records.{Seg, Img}
 use Rattle.macho_image.specs.declared.place.Location.{Location}
-use Rattle.word_places.specs.Order.{is_near, addresses_of}
+use Rattle.macho_image.specs.Order.{is_near, addresses_of}
 use Rattle.rebase_ops.specs.Rebases.{rebases_of}
 use Rattle.rebase_ops.proofs.RebaseLaws.{accepted_rebases}
 use Rattle.bind_ops.specs.Records.{BoundWord}
@@ -18,8 +18,8 @@ use Rattle.bind_ops.proofs.BindLaws.{accepted_binds}
 use Rattle.bind_ops.proofs.ClashLaws.{never_near}
 use Rattle.prebind.specs.declared.resolved.PlacedWord.{PlacedWord}
 use Rattle.prebind.specs.Sets.{StreamLists, ImageSet, AreStreamsOf}
-use Rattle.std.proofs.Common.{◌||◌}
-use Rattle.prebind.specs.Words.{pointer_at, is_bound, placed_bind, rebased_word, is_free, rebased_words, all_words}
+use Rattle.prebind.specs.Words.{is_bound, placed_bind, rebased_word, is_free, rebased_words, all_pointers}
+use Rattle.prebind.specs.Targets.{pointer_at}
 
 abbrev once : ℕ → ℕ → ℕ
 once a x = if nat_eq x a then 1 else 0
@@ -167,7 +167,7 @@ sum_free k a ss bound pointer (l ∷ ls) =
           )
     ]
 
-words_once : (set : ImageSet) (k a : ℕ) (image : Img) (ss : List Seg) (s : StreamLists) → AreStreamsOf image s → sum_by (word_at a) (all_words set k ss s) ≤ 1
+words_once : (set : ImageSet) (k a : ℕ) (image : Img) (ss : List Seg) (s : StreamLists) → AreStreamsOf image s → sum_by (word_at a) (all_pointers set k ss s) ≤ 1
 words_once set k a image ss s sound =
     let first = binds_of Bind image.streams.bind image in
     let last = binds_of Lazy image.streams.lazy image in
@@ -194,7 +194,7 @@ two_at a [] k d lt is next = absurd (omega arith)
 two_at a (w ∷ ws) zero d lt is next = let all = sum_by-cons (word_at a) w ws in let here = once_here a w.at.address is in let rest = one_at a ws 0 d (omega arith) next in omega (arith, all, here, rest)
 two_at a (w ∷ ws) (suc k) d lt is next = let all = sum_by-cons (word_at a) w ws in let rest = two_at a ws k d (omega arith) is next in omega (arith, all, rest)
 
-pub words_rise : (set : ImageSet) (k : ℕ) (image : Img) (ss : List Seg) (s : StreamLists) (words : List PlacedWord) → AreStreamsOf image s → IsPermutation (all_words set k ss s) words → IsNonDecreasingBy (λ (w : PlacedWord). w.at.address) words
+pub words_rise : (set : ImageSet) (k : ℕ) (image : Img) (ss : List Seg) (s : StreamLists) (words : List PlacedWord) → AreStreamsOf image s → IsPermutation (all_pointers set k ss s) words → IsNonDecreasingBy (λ (w : PlacedWord). w.at.address) words
     → (i : ℕ) (d : PlacedWord) → i + 1 < length words → (get_or words i d).at.address < (get_or words (i + 1) d).at.address
 words_rise set k image ss s words sound moved up i d lt =
     let a = (get_or words i d).at.address in
@@ -206,5 +206,5 @@ words_rise set k image ss s words sound moved up i d lt =
           let same : (get_or words (suc i) d).at.address ≡ a = ap (λ (n : ℕ). (get_or words n d).at.address) (sym next) ∙ (let e : (get_or words (i + 1) d).at.address ≡ a = omega arith in e) in
           let two = two_at a words i d (omega arith) refl same in
           let one = words_once set k a image ss s sound in
-          absurd (omega (arith, two, one, sum_by-IsPermutation (word_at a) (all_words set k ss s) words moved))
+          absurd (omega (arith, two, one, sum_by-IsPermutation (word_at a) (all_pointers set k ss s) words moved))
     ]

@@ -4,7 +4,7 @@ use Rattle.std.proofs.Math.Seq.{drop-cons}
 use Rattle.std.proofs.lemmas.Bool.{cond-true, cond-false}
 use Rattle.std.proofs.lemmas.List.{drop_all}
 use Rattle.macho_image.specs.Records.{Seg}
-use Rattle.word_places.specs.Segments.{contains, inside_from, inside}
+use Rattle.macho_image.specs.Segments.{contains, inside_from, inside}
 
 pub inside_start : (ss : List Seg) (x : ℕ) → inside_from 0 (drop 0 ss) x ≡ inside ss x
 unfolding inside

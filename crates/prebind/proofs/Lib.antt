@@ -1,11 +1,12 @@
 pub mod DistinctLaws
-pub mod ExportLaws
 pub mod InsideLaws
 pub mod MetLaws
+pub mod NumberLaws
 pub mod OrderLaws
 pub mod PlaceLaws
 pub mod ResolveLaws
 pub mod SameLaws
+pub mod SetLaws
 pub mod SoundLaws
 pub mod StepLaws
 pub mod WordLaws

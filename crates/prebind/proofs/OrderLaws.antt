@@ -6,7 +6,7 @@ use Rattle.export_trie.specs.declared.export.Export.{Export}
 use Rattle.export_trie.specs.declared.export.Target.{Target}
 use Rattle.export_trie.specs.Finding.{target_named}
 use Rattle.prebind.specs.Sets.{StreamLists}
-use Rattle.prebind.specs.Exports.{exports_of}
+use Rattle.export_trie.specs.Exports.{exports_of}
 use Rattle.prebind.specs.Places.{exports_in}
 use Rattle.prebind.specs.Resolves.{or_later, first_exporting}
 

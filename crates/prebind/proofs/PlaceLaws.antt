@@ -1,24 +1,24 @@
 -- The words of an image of a sound set, by its file and its streams.
-use Rattle.std.proofs.Common.{◌≡◌, ◌<◌, ℕ, List, length, get_or, refl, sym, ap, ap₂, ◌∙◌, Option, None}
+use Rattle.std.proofs.Common.{◌≡◌, ◌<◌, ℕ, List, length, get_or, refl, sym, ap, ap₂, ◌∙◌, Option, None, Bool, map, ◌++◌, subst}
 use Rattle.std.specs.Prelude.{option_map}
 use Rattle.std.proofs.lemmas.Option.{slice_get_read}
 use Rattle.dsc_base.specs.declared.fault.Site.{Site}
 use Rattle.dsc_base.specs.declared.fault.Fault.{Fault}
 use Rattle.dsc_base.specs.declared.fault.Fault.TheVariants.{Broken, Memory}
-use Rattle.dep_closure.specs.Breaks.{in_image, in_set, IsSetRefusal}
-use Rattle.macho_image.specs.Refuses.{IsRefusal}
+use Rattle.dsc_base.specs.Refusals.{in_image, in_set, IsSetRefusal, IsRefusal}
 use Rattle.macho_image.specs.Records.{Seg, Img}
 use Rattle.prebind.specs.declared.resolved.PlacedWord.{PlacedWord}
 use Rattle.prebind.specs.Sets.{StreamLists, ImageSet, IsSoundSet}
-use Rattle.prebind.specs.Places.{segments_in, segments_at}
+use Rattle.macho_image.specs.Segments.{segments_in, segments_at}
 use Rattle.prebind.proofs.SoundLaws.{sound_streams}
 use Rattle.prebind.proofs.DistinctLaws.{words_rise}
-use Rattle.std.proofs.Common.{Bool, map, ◌++◌, subst}
 use Rattle.std.specs.Option.{option_or}
 use Rattle.bind_ops.specs.Records.{BoundWord}
 use Rattle.split_info.specs.declared.reference.Reference.{Reference}
 use Rattle.macho_image.specs.declared.place.Location.{Location}
-use Rattle.prebind.specs.Words.{is_bound, pointer_at, placed_bind, bind_fault_from, rebase_fault, rebased_words, AreOrdered, ArePlaced, word_fault, all_words, streams_in, streams_at, place_break, words_of}
+use Rattle.prebind.specs.Words.{is_bound, placed_bind, rebased_words, AreOrdered, ArePlaced, streams_in, streams_at, all_pointers, pointers_of}
+use Rattle.prebind.specs.Targets.{pointer_at}
+use Rattle.prebind.specs.WordRules.{bind_fault_from, rebase_fault, word_fault, symbol_break, linkedit_pointer_break, stray_pointer_break, recorded_pointer_break, place_break}
 
 segments_here : (set : ImageSet) (k : ℕ) (image : Img) → k < length set.images → image ≡ get_or set.images k image → segments_at set.images k ≡ image.segments
 segments_here set k image lt is = ap segments_in (slice_get_read set.images (length set.images) k image refl lt is)
@@ -26,13 +26,13 @@ segments_here set k image lt is = ap segments_in (slice_get_read set.images (len
 streams_here : (set : ImageSet) (k : ℕ) (s : StreamLists) → IsSoundSet set → k < length set.images → s ≡ get_or set.streams k s → streams_at set k ≡ s
 streams_here set k s sound lt is = ap streams_in (slice_get_read set.streams (length set.images) k s (sym sound.many) lt is)
 
-pub words_here : (set : ImageSet) (k : ℕ) (image : Img) (s : StreamLists) → IsSoundSet set → k < length set.images → image ≡ get_or set.images k image → s ≡ get_or set.streams k s → all_words set k image.segments s ≡ words_of set k
-unfolding words_of
+pub words_here : (set : ImageSet) (k : ℕ) (image : Img) (s : StreamLists) → IsSoundSet set → k < length set.images → image ≡ get_or set.images k image → s ≡ get_or set.streams k s → all_pointers set k image.segments s ≡ pointers_of set k
+unfolding pointers_of
 words_here set k image s sound lt image_is streams_is =
-    sym (ap₂ (λ (ss : List Seg) (t : StreamLists). all_words set k ss t) (segments_here set k image lt image_is) (streams_here set k s sound lt streams_is))
+    sym (ap₂ (λ (ss : List Seg) (t : StreamLists). all_pointers set k ss t) (segments_here set k image lt image_is) (streams_here set k s sound lt streams_is))
 
 pub break_here : (set : ImageSet) (k : ℕ) (image : Img) (s : StreamLists) → IsSoundSet set → k < length set.images → image ≡ get_or set.images k image → s ≡ get_or set.streams k s → option_map (in_image k) (word_fault set k image.segments s) ≡ place_break set k
-unfolding place_break
+unfolding place_break symbol_break linkedit_pointer_break stray_pointer_break recorded_pointer_break
 break_here set k image s sound lt image_is streams_is =
     sym (ap₂ (λ (ss : List Seg) (t : StreamLists). option_map (in_image k) (word_fault set k ss t)) (segments_here set k image lt image_is) (streams_here set k s sound lt streams_is))
 
@@ -58,7 +58,7 @@ lookups_are s bound pointer bs rs ls told recorded binds references rebases = re
 }
 
 pub ordered_all : (set : ImageSet) (k : ℕ) (ss : List Seg) (s : StreamLists) (bound : ℕ → Bool) (pointer : ℕ → Option ℕ) (ls : List Location) (bs : List BoundWord) (first both sorted : List PlacedWord) → AreLookups s bound pointer ls → bs ≡ s.binds
-    → first ≡ map (placed_bind set k) bs → both ≡ first ++ rebased_words k ss bound pointer ls → AreOrdered both sorted → AreOrdered (all_words set k ss s) sorted
+    → first ≡ map (placed_bind set k) bs → both ≡ first ++ rebased_words k ss bound pointer ls → AreOrdered both sorted → AreOrdered (all_pointers set k ss s) sorted
 ordered_all set k ss s bound pointer ls bs first both sorted looked binds made joined ordered =
     let front : first ≡ map (placed_bind set k) s.binds = made ∙ ap (λ (l : List BoundWord). map (placed_bind set k) l) binds in
     let back : rebased_words k ss bound pointer ls ≡ rebased_words k ss (is_bound s.binds) (pointer_at s.references) s.rebases = λ j. rebased_words k ss (looked.bound_is j) (looked.pointer_is j) (looked.rebases_are j) in
@@ -76,7 +76,7 @@ none_of set k ss s bound pointer ls bs looked binds none accepted = sym (faults_
 pub refused_of : (set : ImageSet) (k : ℕ) (ss : List Seg) (s : StreamLists) (bound : ℕ → Bool) (pointer : ℕ → Option ℕ) (ls : List Location) (bs : List BoundWord) (fault : Fault) → AreLookups s bound pointer ls → bs ≡ s.binds → bind_fault_from set k 0 bs ≡ None → IsRefusal (rebase_fault ss bound pointer ls) fault → IsRefusal (word_fault set k ss s) fault
 refused_of set k ss s bound pointer ls bs fault looked binds none refused = subst (λ (o : Option Site). IsRefusal o fault) (faults_of set k ss s bound pointer ls bs looked binds none) refused
 
-pub placed_here : (set : ImageSet) (k : ℕ) (image : Img) (s : StreamLists) (words : List PlacedWord) → IsSoundSet set → k < length set.images → image ≡ get_or set.images k image → s ≡ get_or set.streams k s → AreOrdered (all_words set k image.segments s) words → ArePlaced (words_of set k) words
+pub placed_here : (set : ImageSet) (k : ℕ) (image : Img) (s : StreamLists) (words : List PlacedWord) → IsSoundSet set → k < length set.images → image ≡ get_or set.images k image → s ≡ get_or set.streams k s → AreOrdered (all_pointers set k image.segments s) words → ArePlaced (pointers_of set k) words
 placed_here set k image s words sound lt image_is streams_is ordered =
     subst (λ (all : List PlacedWord). ArePlaced all words) (words_here set k image s sound lt image_is streams_is)
     (record { moved = ordered.moved; rises = words_rise set k image image.segments s words (sound_streams set k image s sound lt image_is streams_is) ordered.moved ordered.rises })

@@ -1,7 +1,6 @@
 -- A resolution, step by step: what is left of it leads to the outcome of the whole.
-use Rattle.std.proofs.Common.{◌≡◌, ◌<◌, ◌+◌, ℕ, zero, suc, Bool, true, false, List, [], ◌∷◌, ◌++◌, length, get_or, refl, sym, ap, subst, ◌∙◌, arith, if◌then◌else◌, Option, Some, None}
+use Rattle.std.proofs.Common.{◌≡◌, ◌<◌, ◌+◌, ℕ, zero, suc, Bool, true, false, List, [], ◌∷◌, ◌++◌, length, get_or, refl, sym, ap, subst, ◌∙◌, arith, if◌then◌else◌, Option, Some, None, not}
 use Rattle.std.specs.List.{list_any}
-use Rattle.std.proofs.Common.{not}
 use Rattle.std.proofs.lemmas.Bool.{cond-true, cond-false}
 use Rattle.macho_image.specs.Records.{Img}
 use Rattle.export_trie.specs.declared.export.Export.{Export}
@@ -13,7 +12,7 @@ use Rattle.dep_closure.specs.declared.dep.Dep.TheVariants as deps
 use Rattle.dep_closure.specs.Linked.{dependency_at}
 use Rattle.prebind.specs.declared.resolved.Resolved.{Resolved}
 use Rattle.prebind.specs.declared.resolved.Resolved.TheVariants.{Loop}
-use Rattle.prebind.specs.Exports.{exports_of}
+use Rattle.export_trie.specs.Exports.{exports_of}
 use Rattle.prebind.specs.Sets.{StreamLists, ImageSet}
 use Rattle.std.proofs.lemmas.List.{length-map}
 use Rattle.prebind.specs.Places.{exports_in}

@@ -1,23 +1,21 @@
 -- What a resolution depends on: sets that agree in it have the same outcomes.
 use Rattle.std.proofs.Common.{◌≡◌, ◌+◌, ◌-◌, ℕ, zero, suc, Bool, true, false, ◌&&◌, List, [], ◌∷◌, ◌++◌, length, map, get_or, refl, sym, ap, ap₂, ◌∙◌, arith, if◌then◌else◌, inl, inr, Option, Some, None}
-use Rattle.std.specs.Prelude.{slice_get, position, option_map, nat_le, nat_lt}
+use Rattle.std.specs.Prelude.{slice_get, position, option_map, nat_le, nat_lt, nat_eq}
 use Rattle.std.specs.List.{sum_by}
 use Rattle.std.specs.Cmp.Lexicographic.{pointwise}
-use Rattle.std.specs.Prelude.{nat_eq}
 use Rattle.std.proofs.lemmas.Bool.{false≢true, cond-true, cond-false, cases_Bool}
 use Rattle.dsc_base.specs.declared.rule.Rule.TheVariants.{ExportOutside}
 use Rattle.dsc_base.specs.declared.fault.Break.{Break}
 use Rattle.macho_image.specs.Records.{Seg}
 use Rattle.macho_image.specs.Rules.{is_linkedit_segment}
-use Rattle.macho_image.specs.Breaks.{broken}
-use Rattle.word_places.specs.declared.segment_index.Inside.{Inside}
-use Rattle.word_places.specs.Places.{wrap}
-use Rattle.word_places.specs.Segments.{contains, inside_from, inside}
+use Rattle.dsc_base.specs.Refusals.{broken, in_image}
+use Rattle.macho_image.specs.declared.places.segment_index.Inside.{Inside}
+use Rattle.macho_image.specs.Places.{wrap}
+use Rattle.macho_image.specs.Segments.{contains, inside_from, inside, header_address, segments_at}
 use Rattle.export_trie.specs.declared.export.Export.{Export}
 use Rattle.export_trie.specs.declared.export.Target.{Target}
 use Rattle.export_trie.specs.declared.export.Target.TheVariants.{Offset, Absolute, Reexport}
 use Rattle.export_trie.specs.Finding.{target_named}
-use Rattle.dep_closure.specs.Breaks.{in_image}
 use Rattle.dep_closure.specs.declared.dep.Dep.{Dep}
 use Rattle.dep_closure.specs.declared.dep.Dep.TheVariants as deps
 use Rattle.dep_closure.specs.Linked.{Linked, dependency_at}
@@ -25,7 +23,7 @@ use Rattle.dep_closure.proofs.PositionLaws.{position-cons}
 use Rattle.prebind.specs.declared.resolved.Resolved.{Resolved}
 use Rattle.prebind.specs.declared.resolved.Resolved.TheVariants.{Loop}
 use Rattle.prebind.specs.Sets.{ImageSet}
-use Rattle.prebind.specs.Places.{header_address, address_of_export, exports_in, segments_at, is_linkedit_at, is_stray, strays, export_break}
+use Rattle.prebind.specs.Places.{address_of_export, exports_in, is_linkedit_at, is_stray, strays, export_break}
 use Rattle.prebind.specs.Resolves.{Pair, is_met, Step, Ends, Reexports, first_exporting, place_of, export_place, found_step, dependency_step, step, next_name, after_step, resolves_after, export_count, resolves}
 use Rattle.prebind.specs.Agree.{extent, body_extent, AgreeOnExports, HaveSameSegments, HaveSameBodies, HaveExportsInside}
 use Rattle.prebind.proofs.ResolveLaws.{named_first}

@@ -5,18 +5,18 @@ use Rattle.std.specs.List.{All}
 use Rattle.std.proofs.lemmas.Option.{slice_get-get_or, slice_get_read, slice_get_cases, slice_get_within, get_or_from_slice_get}
 use Rattle.dsc_base.specs.declared.rule.Rule.TheVariants.{ExportOutside}
 use Rattle.macho_image.specs.Records.{Seg, Img}
-use Rattle.macho_image.specs.Breaks.{broken}
+use Rattle.dsc_base.specs.Refusals.{broken, in_image}
 use Rattle.export_trie.specs.declared.export.Export.{Export}
 use Rattle.export_trie.specs.Order.{trie_break}
 use Rattle.dep_closure.specs.declared.dep.Dep.{Dep}
 use Rattle.dep_closure.specs.declared.dep.Dep.TheVariants.{Image, BadOrdinal}
-use Rattle.dep_closure.specs.Breaks.{in_image}
 use Rattle.dep_closure.specs.Linked.{Linked, dependency_at, IsOneOf, AreLinks}
 use Rattle.export_trie.proofs.FindLaws.{some-value}
 use Rattle.dep_closure.proofs.LinkedLaws.{links_sound}
-use Rattle.prebind.specs.Exports.{exports_of}
+use Rattle.export_trie.specs.Exports.{exports_of}
 use Rattle.prebind.specs.Sets.{StreamLists, ImageSet, AreStreamsOf, IsSoundSet}
-use Rattle.prebind.specs.Places.{segments_in, segments_at, strays, export_break}
+use Rattle.prebind.specs.Places.{strays, export_break}
+use Rattle.macho_image.specs.Segments.{segments_in, segments_at}
 use Rattle.prebind.specs.Steps.{HaveTries}
 use Rattle.prebind.proofs.OrderLaws.{exports_at}
 

@@ -5,11 +5,11 @@ use Rattle.std.proofs.Math.Seq.{drop-cons}
 use Rattle.std.proofs.lemmas.List.{drop_all}
 use Rattle.dsc_base.specs.declared.fault.Site.{Site}
 use Rattle.dsc_base.specs.declared.fault.Fault.{Fault}
-use Rattle.macho_image.specs.Refuses.{IsRefusal}
+use Rattle.dsc_base.specs.Refusals.{IsRefusal}
 use Rattle.dsc_base.specs.declared.fault.Fault.TheVariants.{Broken, Memory}
 use Rattle.bind_ops.specs.Records.{BoundWord}
 use Rattle.prebind.specs.Sets.{ImageSet}
-use Rattle.prebind.specs.Words.{bind_fault, bind_fault_from}
+use Rattle.prebind.specs.WordRules.{bind_fault, bind_fault_from}
 
 -- the binds before index i break no rule
 abbrev pub AreUnbroken : ImageSet → ℕ → List BoundWord → ℕ → Type 0

@@ -3,7 +3,8 @@ use Rattle.std.specs.Prelude.{◌≡◌, ℕ, map, Option, Some, None, if◌then
 use Rattle.macho_image.specs.Records.{Seg}
 use Rattle.macho_image.specs.Rules.{is_linkedit_segment}
 use Rattle.prebind.specs.Sets.{ImageSet}
-use Rattle.prebind.specs.Places.{header_address, segments_at, exports_in, export_break}
+use Rattle.prebind.specs.Places.{exports_in, export_break}
+use Rattle.macho_image.specs.Segments.{header_address, segments_at}
 
 -- the start and the size of a segment
 abbrev pub extent : Seg → ℕ × ℕ

@@ -1,8 +1,10 @@
 pub mod Agree
-pub mod Exports
 pub mod Met
+pub mod Numbers
 pub mod Places
 pub mod Resolves
 pub mod Sets
 pub mod Steps
+pub mod Targets
+pub mod WordRules
 pub mod Words

@@ -1,30 +1,18 @@
 -- Where the exports of an image lie: an offset of a trie counts from the Mach header, after mach-o/loader.h.
-use Rattle.std.specs.Prelude.{ℕ, ◌+◌, Bool, true, false, List, [], ◌∷◌, ◌++◌, codes, map, find, position, Option, Some, None, option_map, slice_get, slice_index_or}
+use Rattle.std.specs.Prelude.{ℕ, ◌+◌, Bool, true, false, List, [], map, position, Option, Some, None, option_map, slice_get, slice_index_or}
 use Rattle.dsc_base.specs.declared.fault.Break.{Break}
 use Rattle.dsc_base.specs.declared.rule.Rule.TheVariants.{ExportOutside}
-use Rattle.macho_image.specs.Records.{Seg, Img}
-use Rattle.macho_image.specs.Rules.{same_bytes, is_linkedit_segment}
-use Rattle.macho_image.specs.Breaks.{broken}
-use Rattle.word_places.specs.declared.segment_index.Inside.{Inside}
-use Rattle.word_places.specs.Places.{wrap}
-use Rattle.word_places.specs.Segments.{inside}
+use Rattle.macho_image.specs.Records.{Seg}
+use Rattle.macho_image.specs.Rules.{is_linkedit_segment}
+use Rattle.dsc_base.specs.Refusals.{broken, in_image}
+use Rattle.macho_image.specs.declared.places.segment_index.Inside.{Inside}
+use Rattle.macho_image.specs.Places.{wrap}
+use Rattle.macho_image.specs.Segments.{header_address, segments_at, inside}
 use Rattle.export_trie.specs.declared.export.Export.{Export}
 use Rattle.export_trie.specs.declared.export.Target.{Target}
 use Rattle.export_trie.specs.declared.export.Target.TheVariants.{Offset, Absolute, Reexport}
-use Rattle.dep_closure.specs.Breaks.{in_image}
-use Rattle.prebind.specs.Exports.{exports_of}
+use Rattle.export_trie.specs.Exports.{exports_of}
 use Rattle.prebind.specs.Sets.{StreamLists, ImageSet}
-
-unfoldable pub is_text_segment : Seg → Bool
-is_text_segment s = same_bytes s.name (codes "__TEXT" ++ (0 ∷ 0 ∷ 0 ∷ 0 ∷ 0 ∷ 0 ∷ 0 ∷ 0 ∷ 0 ∷ 0 ∷ []))
-
-abbrev pub start_of : Option Seg → ℕ
-start_of None = 0
-start_of (Some s) = s.vmaddr
-
--- an image's header stands at the start of its segment `__TEXT`
-unfoldable pub header_address : List Seg → ℕ
-header_address segments = start_of (find is_text_segment segments)
 
 abbrev pub address_of_export : List Seg → ℕ → ℕ
 address_of_export segments offset = wrap (header_address segments + offset)
@@ -32,13 +20,6 @@ address_of_export segments offset = wrap (header_address segments + offset)
 -- the exports of each image of a set
 abbrev pub exports_in : List StreamLists → List (List Export)
 exports_in streams = map (λ (s : StreamLists). exports_of s.exports) streams
-
-abbrev pub segments_in : Option Img → List Seg
-segments_in None = []
-segments_in (Some image) = image.segments
-
-abbrev pub segments_at : List Img → ℕ → List Seg
-segments_at images k = segments_in (slice_get images k)
 
 -- rule 131: an offset that leads into no segment, or into `__LINKEDIT`
 abbrev pub is_linkedit_at : Option Seg → Bool

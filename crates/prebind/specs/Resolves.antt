@@ -3,8 +3,8 @@ use Rattle.std.specs.Prelude.{ℕ, zero, suc, ◌+◌, Bool, ◌&&◌, nat_eq, i
 use Rattle.std.specs.List.{list_any, sum_by}
 use Rattle.macho_image.specs.Rules.{same_bytes}
 use Rattle.macho_image.specs.Records.{Seg, Img}
-use Rattle.word_places.specs.declared.segment_index.Inside.{Inside}
-use Rattle.word_places.specs.Segments.{inside}
+use Rattle.macho_image.specs.declared.places.segment_index.Inside.{Inside}
+use Rattle.macho_image.specs.Segments.{inside, segments_at}
 use Rattle.export_trie.specs.declared.export.Export.{Export}
 use Rattle.export_trie.specs.declared.export.Target.{Target}
 use Rattle.export_trie.specs.declared.export.Target.TheVariants.{Offset, Absolute, Reexport}
@@ -15,7 +15,7 @@ use Rattle.dep_closure.specs.Linked.{dependency_at}
 use Rattle.prebind.specs.declared.resolved.Resolved.{Resolved}
 use Rattle.prebind.specs.declared.resolved.Resolved.TheVariants.{Place, Constant, Absent, Loop, BadOrdinal}
 use Rattle.prebind.specs.Sets.{ImageSet}
-use Rattle.prebind.specs.Places.{exports_in, segments_at, address_of_export}
+use Rattle.prebind.specs.Places.{exports_in, address_of_export}
 
 -- a name that an image re-exports
 abbrev pub Pair : Type 0

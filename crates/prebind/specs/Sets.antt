@@ -1,8 +1,10 @@
 -- A set of images as contracts see it: the files, what their streams spell, and what links them.
-use Rattle.std.specs.Prelude.{◌≡◌, ◌≤◌, ◌⊎◌, ℕ, List, [], ◌++◌, length, Some, None, slice_get}
+use Rattle.std.specs.Prelude.{◌≡◌, ◌≤◌, ◌⊎◌, ℕ, List, [], ◌∷◌, ◌++◌, length, map, Option, Some, None, slice_get}
+use Rattle.dsc_base.specs.declared.fault.Site.{Site}
+use Rattle.dsc_base.specs.Refusals.{first_break}
 use Rattle.macho_image.specs.Records.{Img}
 use Rattle.macho_image.specs.declared.place.Location.{Location}
-use Rattle.word_places.specs.Order.{addresses_of}
+use Rattle.macho_image.specs.Order.{addresses_of}
 use Rattle.rebase_ops.specs.Rebases.{rebases_of, rebase_break}
 use Rattle.bind_ops.specs.Records.{BoundWord}
 use Rattle.bind_ops.specs.Binds.{binds_of, bind_break, places_of}
@@ -48,6 +50,32 @@ pub record AreStreamsOf (image : Img) (s : StreamLists) : Type 0 where
   pub exports : s.exports ≡ image.streams.exports
   pub exports_accepted : trie_break s.exports ≡ None
   pub references : IsSplitRead image s ⊎ (s.references ≡ [])
+
+-- the first rule that the streams of an image break, in the order in which they are read: rules 21 to 30, 41 to 56, 61 to 76, 81, 82, 91 to 98 and 101 to 109
+abbrev pub clash_of : Img → Option Site
+clash_of image =
+    clash_break (addresses_of (rebases_of image.streams.rebase image)) (addresses_of (places_of (binds_of Bind image.streams.bind image))) (addresses_of (places_of (binds_of Lazy image.streams.lazy image)))
+
+abbrev pub split_of : Img → Option Site
+split_of image = split_break image.streams.split image (rebases_of image.streams.rebase image) (places_of (all_binds image))
+
+unfoldable pub streams_break : Img → Option Site
+streams_break image =
+    first_break (rebase_break image.streams.rebase image ∷ bind_break Bind image.streams.bind image ∷ bind_break Lazy image.streams.lazy image
+    ∷ weak_break image.streams.weak ∷ clash_of image ∷ trie_break image.streams.exports ∷ split_of image ∷ [])
+
+-- what the streams of an image spell
+unfoldable pub lists_of : Img → StreamLists
+lists_of image = record {
+  rebases = rebases_of image.streams.rebase image;
+  binds = all_binds image;
+  references = references_of image.streams.split image;
+  exports = image.streams.exports;
+}
+
+-- the set that images make: with what their streams spell, and what links them
+unfoldable pub image_set : List Img → ImageSet
+image_set images = record { images = images; streams = map lists_of images; links = links_of images }
 
 -- a set whose streams were read without a fault, and whose links are those of its files
 pub record IsSoundSet (set : ImageSet) : Type 0 where

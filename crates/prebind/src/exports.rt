@@ -1,20 +1,19 @@
 // Where the exports of an image lie.
 ghost use Rattle.std.specs.Prelude.{◌≡◌, ◌<◌, length, position, slice_get, IfOk, None};
-ghost use Rattle.dep_closure.specs.Breaks.{RefusesSet};
+ghost use Rattle.dsc_base.specs.Refusals.{RefusesSet};
 ghost use Rattle.export_trie.specs.Order.{trie_break};
-ghost use Rattle.word_places.specs.Index.{Indexes};
-ghost use Rattle.prebind.specs.Exports.{exports_of};
+ghost use Rattle.macho_image.specs.Index.{Indexes};
+ghost use Rattle.macho_image.specs.Segments.{header_address};
+ghost use Rattle.export_trie.specs.Exports.{exports_of};
 ghost use Rattle.prebind.specs.Places as spec;
 ghost use Rattle.prebind.specs.Sets.{IsSoundSet};
 ghost use Rattle.prebind.specs.Steps.{set_of};
 
-use crate::segments::header_address;
 use crate::{ImageStreams, Set};
 use dsc_base::{Break, NoMemory, Rule, SetFault};
 use export_trie::{Export, Target, read_trie};
-use macho_image::{Image, Segment};
+use macho_image::{Image, Segment, SegmentIndex, header_address};
 use std::alloc::Global;
-use word_places::SegmentIndex;
 
 // All exports of a trie that is accepted.
 fn read_exports(alloc: Global, trie: &[u8]) -> Result<Vec<Export>, NoMemory>
@@ -39,7 +38,7 @@ pub(crate) fn is_linkedit_at(segments: &[Segment<'_>], number: u32) -> bool
 // Whether an export leads into no segment, or into `__LINKEDIT`.
 fn strays(segments: &[Segment<'_>], index: &SegmentIndex, header: u64, target: &Target) -> bool
     requires index { Indexes segments.now index.now }
-    requires header { header ≡ spec.header_address segments.now }
+    requires header { header ≡ header_address segments.now }
     ensures { result ≡ spec.strays segments.now target.now }
 {
     match target {

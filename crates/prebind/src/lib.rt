@@ -6,15 +6,19 @@ mod exports;
 mod lookups;
 mod met;
 mod place;
+mod reading;
 mod rebased;
 mod resolution;
 mod resolved;
 mod segments;
 mod set;
+#[cfg(test)]
+mod tests;
 mod words;
 
 pub use exports::check_exports;
 pub use place::place_words;
+pub use reading::read_streams;
 pub use resolution::resolve;
 pub use resolved::{PlacedWord, Resolved, WordTarget};
 pub use set::{ImageStreams, Set};

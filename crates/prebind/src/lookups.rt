@@ -3,7 +3,8 @@ ghost use Rattle.std.specs.Prelude.{◌≡◌, ℕ, nat_eq, IfOk};
 ghost use Rattle.indexmap.specs.IndexMap.{get};
 ghost use Rattle.indexmap.specs.IndexSet.{contains};
 ghost use Rattle.split_info.specs.Overlap.{is_pointer};
-ghost use Rattle.prebind.specs.Words.{is_bound, pointer_at};
+ghost use Rattle.prebind.specs.Words.{is_bound};
+ghost use Rattle.prebind.specs.Targets.{pointer_at};
 
 use bind_ops::Bind;
 use dsc_base::NoMemory;

@@ -1,30 +1,16 @@
 // The words of an image given their places.
 ghost use Rattle.std.specs.Prelude.{◌≡◌, ◌<◌, length, IfOk};
-ghost use Rattle.dep_closure.specs.Breaks.{in_set, RefusesSet};
-ghost use Rattle.macho_image.specs.Refuses.{Refuses};
+ghost use Rattle.dsc_base.specs.Refusals.{in_set, RefusesSet, Refuses};
 ghost use Rattle.prebind.specs.Sets.{IsSoundSet};
 ghost use Rattle.prebind.specs.Steps.{set_of};
 ghost use Rattle.prebind.specs.Words as spec;
+ghost use Rattle.prebind.specs.WordRules as rules;
 
 use crate::words::words_in;
 use crate::{ImageStreams, PlacedWord, Set};
-use dsc_base::{Break, Fault, SetFault};
-use macho_image::Image;
+use dsc_base::{Fault, SetFault};
+use macho_image::{Image, SegmentIndex};
 use std::alloc::Global;
-use word_places::SegmentIndex;
-
-fn of_image(fault: Fault, image: u32) -> SetFault
-    ensures { result ≡ in_set image fault }
-{
-    match fault {
-        Fault::Broken(site) => SetFault::Broken(Break {
-            rule: site.rule,
-            image,
-            at: site.at,
-        }),
-        Fault::Memory => SetFault::Memory,
-    }
-}
 
 fn image_words(
     alloc: Global,
@@ -35,8 +21,8 @@ fn image_words(
 ) -> Result<Vec<PlacedWord>, Fault>
     requires sound { IsSoundSet (set_of set.now) }
     requires image { number < length set.now.images.now }
-    ensures found { IfOk result (λ v. spec.AreOrdered (spec.all_words (set_of set.now) number image.now.segments streams.now) v.items) }
-    ensures cause { Refuses (spec.word_fault (set_of set.now) number image.now.segments streams.now) result }
+    ensures found { IfOk result (λ v. spec.AreOrdered (spec.all_pointers (set_of set.now) number image.now.segments streams.now) v.items) }
+    ensures cause { Refuses (rules.word_fault (set_of set.now) number image.now.segments streams.now) result }
 {
     let index = SegmentIndex::new(alloc, image)?;
     match words_in(alloc, set, number, &image.segments, &index, streams) {
@@ -47,8 +33,9 @@ fn image_words(
 
 /// All words of an image that are bound or rebased, in address order, each with where it leads. A bound
 /// word leads where its symbol does, as far behind as its addend says, also where it is rebased too; a weak
-/// symbol that is absent is 0. Another rebase leads to its own value: in the segment of the section that the
-/// split-segment information records for it, else in the segment that contains the value.
+/// symbol that is absent counts as 0, so that the word is the addend. Another rebase leads to its own
+/// value: in the segment of the section that the split-segment information records for it, else in the
+/// segment other than `__LINKEDIT` that contains the value.
 ///
 /// Refuses with the bind's index `BadOrdinal`, `UnresolvedSymbol` (where the symbol isn't weak) and
 /// `ReexportLoop`, whichever comes first; and then with the rebase's index `PointsIntoLinkedit` and
@@ -62,13 +49,13 @@ pub fn place_words(
 ) -> Result<Vec<PlacedWord>, SetFault>
     requires sound { IsSoundSet (set_of set.now) }
     requires image { image < length set.now.images.now }
-    ensures found { IfOk result (λ v. spec.ArePlaced (spec.words_of (set_of set.now) image) v.items) }
-    ensures cause { RefusesSet (spec.place_break (set_of set.now) image) result }
+    ensures found { IfOk result (λ v. spec.ArePlaced (spec.pointers_of (set_of set.now) image) v.items) }
+    ensures cause { RefusesSet (rules.place_break (set_of set.now) image) result }
 {
     let file = &set.images[image as usize];
     let streams = &set.streams[image as usize];
     match image_words(alloc, set, image, file, streams) {
         Ok(words) => Ok(words),
-        Err(fault) => Err(of_image(fault, image)),
+        Err(fault) => Err(fault.in_image(image)),
     }
 }

@@ -2,28 +2,17 @@
 ghost use Rattle.std.specs.Prelude.{◌≡◌, ◌∷◌, ◌++◌, [], ℕ, not, ◌&&◌, nat_eq, map, filter, position, slice_get, IfOk, OnOk};
 ghost use Rattle.indexmap.specs.IndexMap.{get};
 ghost use Rattle.indexmap.specs.IndexSet.{contains};
-ghost use Rattle.macho_image.specs.Breaks.{broken, first_break};
-ghost use Rattle.macho_image.specs.Refuses.{Refuses};
-ghost use Rattle.word_places.specs.Index.{Indexes};
-ghost use Rattle.prebind.specs.Places.{start_of};
-ghost use Rattle.prebind.specs.Words as spec;
+ghost use Rattle.dsc_base.specs.Refusals.{broken, first_break, Refuses};
+ghost use Rattle.macho_image.specs.Index.{Indexes};
+ghost use Rattle.macho_image.specs.Segments.{start_of, value_of, inside};
+ghost use Rattle.prebind.specs.WordRules as rules;
+ghost use Rattle.prebind.specs.Targets as targets;
 
 use crate::WordTarget;
 use crate::exports::is_linkedit_at;
 use dsc_base::{Fault, Rule, Site};
 use indexmap::{IndexMap, IndexSet};
-use macho_image::{Location, Segment};
-use word_places::{SegmentIndex, number_at_address};
-
-#[tactic(auto, unfolding(crate::specs::Words::value_of))]
-pub(crate) fn value_of(segments: &[Segment<'_>], word: &Location) -> u64
-    ensures { result ≡ spec.value_of segments.now word.now }
-{
-    match segments.get(word.segment as usize) {
-        Some(segment) => number_at_address(segment, word.address),
-        None => 0,
-    }
-}
+use macho_image::{Location, Segment, SegmentIndex, value_at};
 
 fn points_into_linkedit(
     segments: &[Segment<'_>],
@@ -32,7 +21,7 @@ fn points_into_linkedit(
     recorded: Option<u32>,
 ) -> bool
     requires { Indexes segments.now index.now }
-    ensures { result ≡ spec.breaks_135 segments.now value recorded }
+    ensures { result ≡ rules.breaks_135 segments.now value recorded }
 {
     if recorded.is_some() {
         return false;
@@ -50,7 +39,7 @@ fn points_nowhere(
     recorded: Option<u32>,
 ) -> bool
     requires { Indexes segments.now index.now }
-    ensures { result ≡ spec.breaks_136 segments.now value recorded }
+    ensures { result ≡ rules.breaks_136 segments.now value recorded }
 {
     let _ = segments;
     if recorded.is_some() {
@@ -60,7 +49,7 @@ fn points_nowhere(
 }
 
 fn points_out_of_range(segments: &[Segment<'_>], value: u64, recorded: Option<u32>) -> bool
-    ensures { result ≡ spec.breaks_137 segments.now value recorded }
+    ensures { result ≡ rules.breaks_137 segments.now value recorded }
 {
     match recorded {
         Some(number) => match segments.get(number as usize) {
@@ -80,7 +69,23 @@ fn start_of(segments: &[Segment<'_>], number: u32) -> u64
     }
 }
 
+// The place of a value in the segment that contains it, unless that is `__LINKEDIT`.
+fn value_place(segments: &[Segment<'_>], index: &SegmentIndex, image: u32, value: u64) -> WordTarget
+    requires { Indexes segments.now index.now }
+    ensures { result ≡ targets.value_place image segments.now value (inside segments.now value) }
+{
+    match index.find(value) {
+        Some(place) if !is_linkedit_at(segments, place.segment) => WordTarget::Place {
+            image,
+            segment: place.segment,
+            distance: place.distance,
+        },
+        _ => WordTarget::Constant(value),
+    }
+}
+
 /// Where a rebase of image number `image` leads that has this value.
+#[tactic(auto, unfolding(macho_image::specs::Places::above))]
 pub(crate) fn target_of(
     segments: &[Segment<'_>],
     index: &SegmentIndex,
@@ -89,22 +94,15 @@ pub(crate) fn target_of(
     recorded: Option<u32>,
 ) -> WordTarget
     requires { Indexes segments.now index.now }
-    ensures { result ≡ spec.rebase_target image segments.now value recorded }
+    ensures { result ≡ targets.rebase_target image segments.now value recorded }
 {
     match recorded {
         Some(segment) => WordTarget::Place {
             image,
             segment,
-            distance: value.saturating_sub(start_of(segments, segment)),
+            distance: value.wrapping_sub(start_of(segments, segment)),
         },
-        None => match index.find(value) {
-            Some(place) => WordTarget::Place {
-                image,
-                segment: place.segment,
-                distance: place.distance,
-            },
-            None => WordTarget::Constant(value),
-        },
+        None => value_place(segments, index, image, value),
     }
 }
 
@@ -128,14 +126,14 @@ fn first_into_linkedit(
     words: &[Location],
 ) -> Option<usize>
     requires { Indexes segments.now index.now }
-    ensures { result ≡ spec.first_rebase spec.breaks_135 segments.now (contains nat_eq bound.now) (get nat_eq pointers.now) words.now }
+    ensures { result ≡ rules.first_rebase rules.breaks_135 segments.now (contains nat_eq bound.now) (get nat_eq pointers.now) words.now }
 {
     words.iter().position(|l| {
         is_free(bound, l)
             && points_into_linkedit(
                 segments,
                 index,
-                value_of(segments, l),
+                value_at(segments, l),
                 recorded_at(pointers, l),
             )
     })
@@ -149,14 +147,14 @@ fn first_nowhere(
     words: &[Location],
 ) -> Option<usize>
     requires { Indexes segments.now index.now }
-    ensures { result ≡ spec.first_rebase spec.breaks_136 segments.now (contains nat_eq bound.now) (get nat_eq pointers.now) words.now }
+    ensures { result ≡ rules.first_rebase rules.breaks_136 segments.now (contains nat_eq bound.now) (get nat_eq pointers.now) words.now }
 {
     words.iter().position(|l| {
         is_free(bound, l)
             && points_nowhere(
                 segments,
                 index,
-                value_of(segments, l),
+                value_at(segments, l),
                 recorded_at(pointers, l),
             )
     })
@@ -168,11 +166,11 @@ fn first_out_of_range(
     pointers: &IndexMap<u64, u32>,
     words: &[Location],
 ) -> Option<usize>
-    ensures { result ≡ spec.first_rebase spec.breaks_137 segments.now (contains nat_eq bound.now) (get nat_eq pointers.now) words.now }
+    ensures { result ≡ rules.first_rebase rules.breaks_137 segments.now (contains nat_eq bound.now) (get nat_eq pointers.now) words.now }
 {
     words.iter().position(|l| {
         is_free(bound, l)
-            && points_out_of_range(segments, value_of(segments, l), recorded_at(pointers, l))
+            && points_out_of_range(segments, value_at(segments, l), recorded_at(pointers, l))
     })
 }
 
@@ -195,7 +193,7 @@ pub(crate) fn check_rebases(
     words: &[Location],
 ) -> Result<(), Fault>
     requires { Indexes segments.now index.now }
-    ensures { Refuses (spec.rebase_fault segments.now (contains nat_eq bound.now) (get nat_eq pointers.now) words.now) result }
+    ensures { Refuses (rules.rebase_fault segments.now (contains nat_eq bound.now) (get nat_eq pointers.now) words.now) result }
 {
     if let Some(at) = first_into_linkedit(segments, index, bound, pointers, words) {
         return Err(refused(Rule::PointsIntoLinkedit, at));

@@ -3,19 +3,20 @@ ghost use Rattle.std.specs.Prelude.{◌≡◌, ℕ, slice_index, ◌≤◌, ◌<
 ghost use Rattle.export_trie.specs.Order.{trie_break};
 ghost use Rattle.export_trie.specs.Finding.{target_found, target_named};
 ghost use Rattle.dep_closure.specs.Linked.{AreLinks};
-ghost use Rattle.prebind.specs.Exports.{exports_of};
-ghost use Rattle.prebind.specs.Places.{exports_in, segments_at};
+ghost use Rattle.export_trie.specs.Exports.{exports_of};
+ghost use Rattle.prebind.specs.Places.{exports_in};
+ghost use Rattle.macho_image.specs.Segments.{segments_at};
 ghost use Rattle.prebind.specs.Resolves as spec;
 ghost use Rattle.prebind.specs.Steps.{set_of, found_seen, step_seen, some_step, HaveTries};
 ghost use Rattle.prebind.specs.Sets.{IsSoundSet};
 
 use crate::met::Met;
-use crate::segments::{header_address, inside};
+use crate::segments::inside;
 use crate::{ImageStreams, Resolved, Set};
 use dep_closure::Dep;
 use dsc_base::NoMemory;
 use export_trie::{Found, find};
-use macho_image::{Image, Segment};
+use macho_image::{Image, Segment, header_address};
 use std::alloc::Global;
 
 // What an ordinal and a name lead to at once: an outcome, or the entry of an image that re-exports the name.
@@ -96,7 +97,7 @@ fn are_bytes(bytes: &[u8])
 }
 
 // The same by the image.
-#[tactic(auto, using(word_places::proofs::SoundSegments::few_segments))]
+#[tactic(auto, using(macho_image::proofs::SoundSegments::few_segments))]
 fn image_step<'a>(image: &Image<'_>, number: u32, found: Found<'a>) -> Step<'a>
     ensures { step_seen result ≡ some_step image.now.segments number (target_found found.entry) }
 {

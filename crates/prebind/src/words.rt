@@ -3,26 +3,28 @@ ghost use Rattle.std.specs.Prelude.{◌≡◌, ◌<◌, ◌++◌, ◌∷◌, [],
 ghost use Rattle.std.specs.List.Sorted.{IsPermutation, IsNonDecreasingBy};
 ghost use Rattle.indexmap.specs.IndexMap.{get};
 ghost use Rattle.indexmap.specs.IndexSet.{contains};
-ghost use Rattle.macho_image.specs.Refuses.{Refuses};
-ghost use Rattle.word_places.specs.Index.{Indexes};
+ghost use Rattle.dsc_base.specs.Refusals.{Refuses};
+ghost use Rattle.macho_image.specs.Index.{Indexes};
+ghost use Rattle.macho_image.specs.Segments.{value_of};
 ghost use Rattle.prebind.specs.Sets.{IsSoundSet};
 ghost use Rattle.prebind.specs.Steps.{set_of};
 ghost use Rattle.prebind.specs.Words as spec;
+ghost use Rattle.prebind.specs.WordRules as rules;
+ghost use Rattle.prebind.specs.Targets as targets;
 
 use crate::lookups::{bound_addresses, recorded_pointers};
-use crate::rebased::{check_rebases, is_free, recorded_at, target_of, value_of};
+use crate::rebased::{check_rebases, is_free, recorded_at, target_of};
 use crate::resolution::resolve;
 use crate::{ImageStreams, PlacedWord, Resolved, Set, WordTarget};
 use bind_ops::Bind;
 use dsc_base::{Fault, NoMemory, Rule, Site};
 use indexmap::{IndexMap, IndexSet};
-use macho_image::{Location, Segment};
+use macho_image::{Location, Segment, SegmentIndex, value_at};
 use std::alloc::Global;
-use word_places::SegmentIndex;
 
 // The rule that a bind breaks whose symbol has this outcome.
 fn outcome_fault(weak: bool, outcome: Resolved) -> Option<Rule>
-    ensures { result ≡ spec.outcome_fault weak outcome }
+    ensures { result ≡ rules.outcome_fault weak outcome }
 {
     match outcome {
         Resolved::BadOrdinal => Some(Rule::BadOrdinal),
@@ -39,13 +41,13 @@ fn outcome_fault(weak: bool, outcome: Resolved) -> Option<Rule>
 }
 
 fn added(number: u64, addend: i64) -> u64
-    ensures { result ≡ spec.added number addend }
+    ensures { result ≡ targets.added number addend }
 {
     number.wrapping_add(addend.cast_unsigned())
 }
 
 fn bound_target(addend: i64, outcome: Resolved) -> WordTarget
-    ensures { result ≡ spec.bound_target addend outcome }
+    ensures { result ≡ targets.bound_target addend outcome }
 {
     match outcome {
         Resolved::Place {
@@ -72,7 +74,7 @@ fn place_bind(
     requires sound { IsSoundSet (set_of set.now) }
     requires image { image < length set.now.images.now }
     ensures found { IfOk result (λ w. w ≡ spec.placed_bind (set_of set.now) image bind.now) }
-    ensures cause { Refuses (spec.bind_fault (set_of set.now) image index bind.now) result }
+    ensures cause { Refuses (rules.bind_fault (set_of set.now) image index bind.now) result }
 {
     let outcome = resolve(alloc, set, image, bind.ordinal, bind.name)?;
     match outcome_fault(bind.weak, outcome) {
@@ -97,7 +99,7 @@ fn place_binds(
     requires sound { IsSoundSet (set_of set.now) }
     requires image { image < length set.now.images.now }
     ensures found { IfOk result (λ v. v.items ≡ map (spec.placed_bind (set_of set.now) image) binds.now) }
-    ensures cause { Refuses (spec.bind_fault_from (set_of set.now) image 0 binds.now) result }
+    ensures cause { Refuses (rules.bind_fault_from (set_of set.now) image 0 binds.now) result }
 {
     let mut words = Vec::with_capacity(alloc, binds.len())?;
     for (index, bind) in binds.iter().enumerate() {
@@ -118,11 +120,11 @@ fn place_rebases(
     words: &mut Vec<PlacedWord>,
 ) -> Result<(), NoMemory>
     requires { Indexes segments.now index.now }
-    ensures { OnOk result (words.new.items ≡ words.old.items ++ map (λ l. record { at = l; target = spec.rebase_target image segments.now (spec.value_of segments.now l) (get nat_eq pointers.now l.address) }) (filter (λ l. not (contains nat_eq bound.now l.address)) rebases.now)) }
+    ensures { OnOk result (words.new.items ≡ words.old.items ++ map (λ l. record { at = l; target = targets.rebase_target image segments.now (value_of segments.now l) (get nat_eq pointers.now l.address) }) (filter (λ l. not (contains nat_eq bound.now l.address)) rebases.now)) }
 {
     for word in rebases {
         if is_free(bound, word) {
-            let value = value_of(segments, word);
+            let value = value_at(segments, word);
             let target = target_of(segments, index, image, value, recorded_at(pointers, word));
             words.push(PlacedWord { at: *word, target })?;
         }
@@ -150,8 +152,8 @@ pub(crate) fn words_in(
     requires sound { IsSoundSet (set_of set.now) }
     requires image { image < length set.now.images.now }
     requires index { Indexes segments.now index.now }
-    ensures found { IfOk result (λ v. spec.AreOrdered (spec.all_words (set_of set.now) image segments.now streams.now) v.items) }
-    ensures cause { Refuses (spec.word_fault (set_of set.now) image segments.now streams.now) result }
+    ensures found { IfOk result (λ v. spec.AreOrdered (spec.all_pointers (set_of set.now) image segments.now streams.now) v.items) }
+    ensures cause { Refuses (rules.word_fault (set_of set.now) image segments.now streams.now) result }
 {
     let mut words = place_binds(alloc, set, image, &streams.binds)?;
     let bound = bound_addresses(alloc, &streams.binds)?;

@@ -1,8 +1,7 @@
 use Rattle.std.proofs.Common.{◌∙◌, ℕ, ap, Option, arith, get_or}
 use Rattle.std.specs.Prelude.{option_map}
 use Rattle.dsc_base.specs.declared.rule.Rule.TheVariants.{ExportOutside}
-use Rattle.dep_closure.specs.Breaks.{in_image}
-use Rattle.macho_image.specs.Breaks.{broken}
+use Rattle.dsc_base.specs.Refusals.{in_image, broken}
 use Rattle.macho_image.specs.Records.{Img}
 use Rattle.prebind.specs.Sets.{StreamLists}
 use Rattle.prebind.specs.Steps.{set_of}

@@ -1,6 +1,6 @@
 use Rattle.std.proofs.Common.{◌≡◌, ◌≤◌, ℕ, drop, length, nat_eq}
 use Rattle.indexmap.specs.IndexMap.{get}
-use Rattle.prebind.specs.Words.{pointer_at}
+use Rattle.prebind.specs.Targets.{pointer_at}
 use Rattle.prebind.proofs.lookups.recorded_pointers.Given as goal
 
 abbrev pub invariant-loop-left : goal.invariant-loop-left

@@ -1,13 +1,14 @@
 use Rattle.std.proofs.Common.{◌≡◌, List, None, ap, subst, ◌∙◌}
 use Rattle.macho_image.specs.Records.{Seg, Img}
-use Rattle.macho_image.specs.Refuses.{IsRefusal}
+use Rattle.dsc_base.specs.Refusals.{IsRefusal}
 use Rattle.prebind.specs.Steps.{set_of}
-use Rattle.prebind.specs.Words.{AreOrdered, all_words, word_fault}
+use Rattle.prebind.specs.Words.{AreOrdered, all_pointers}
+use Rattle.prebind.specs.WordRules.{word_fault}
 use Rattle.prebind.proofs.place.image_words.Goals as goal
 
 pub returns-in-Ok-clause-found : goal.returns-in-Ok-clause-found
 returns-in-Ok-clause-found c =
-    subst (λ (ss : List Seg). AreOrdered (all_words (set_of c.args.set.now) c.args.number ss c.args.streams.now) c.in-Ok.words.items) (c.deref.ensures.value ∙ ap (λ (i : Img). i.segments) c.image.view_is) c.in-Ok.ensures.found
+    subst (λ (ss : List Seg). AreOrdered (all_pointers (set_of c.args.set.now) c.args.number ss c.args.streams.now) c.in-Ok.words.items) (c.deref.ensures.value ∙ ap (λ (i : Img). i.segments) c.image.view_is) c.in-Ok.ensures.found
 
 pub returns-in-Ok-clause-cause : goal.returns-in-Ok-clause-cause
 returns-in-Ok-clause-cause c =

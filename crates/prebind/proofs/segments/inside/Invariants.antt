@@ -1,5 +1,5 @@
 use Rattle.std.proofs.Common.{◌≡◌, drop}
-use Rattle.word_places.specs.Segments.{inside_from, inside}
+use Rattle.macho_image.specs.Segments.{inside_from, inside}
 use Rattle.prebind.proofs.segments.inside.Given as goal
 
 abbrev pub invariant-loop-number : goal.invariant-loop-number

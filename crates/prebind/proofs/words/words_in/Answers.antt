@@ -1,10 +1,11 @@
 use Rattle.std.proofs.Common.{◌≡◌, None, subst, nat_eq}
 use Rattle.indexmap.specs.IndexMap.{get}
 use Rattle.indexmap.specs.IndexSet.{contains}
-use Rattle.macho_image.specs.Refuses.{IsRefusal}
+use Rattle.dsc_base.specs.Refusals.{IsRefusal}
 use Rattle.prebind.specs.Sets.{StreamLists}
 use Rattle.prebind.specs.Steps.{set_of}
-use Rattle.prebind.specs.Words.{AreOrdered, all_words, word_fault}
+use Rattle.prebind.specs.Words.{AreOrdered, all_pointers}
+use Rattle.prebind.specs.WordRules.{word_fault}
 use Rattle.prebind.proofs.PlaceLaws.{lookups_are, ordered_all, none_of, refused_of}
 use Rattle.prebind.proofs.words.words_in.Goals as goal
 
@@ -25,7 +26,7 @@ returns-clause-found c =
     let bound = contains nat_eq c.in_ok-bound.bound in
     let pointer = get nat_eq c.in_ok-pointers.pointers in
     let looked = lookups_are s bound pointer c.deref-2.result.now c.deref-3.result.now c.deref-5.result.now c.in_ok-bound.ensures c.in_ok-pointers.ensures c.deref-2.ensures.value c.deref-3.ensures.value c.deref-5.ensures.value in
-    subst (λ (t : StreamLists). AreOrdered (all_words set c.args.image c.args.segments.now t) c.sort_words.new.words.items) c.streams.view_is
+    subst (λ (t : StreamLists). AreOrdered (all_pointers set c.args.image c.args.segments.now t) c.sort_words.new.words.items) c.streams.view_is
     (ordered_all set c.args.image c.args.segments.now s bound pointer c.deref-5.result.now c.deref.result.now c.in_ok-words.words.items c.place_rebases.new.words.items c.sort_words.new.words.items looked c.deref.ensures.value
     c.in_ok-words.ensures.found c.in_ok-place_rebases.ensures c.in_ok-sort_words.ensures)
 

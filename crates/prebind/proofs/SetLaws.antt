@@ -1,0 +1,56 @@
+-- The set that images make is sound where their streams break no rule, and neither do their links.
+use Rattle.std.proofs.Common.{◌≡◌, ◌≤◌, ℕ, Option, Some, None, List, length, refl, sym, ap, ◌∙◌, subst, inl}
+use Rattle.std.specs.Prelude.{slice_get, option_map}
+use Rattle.std.specs.Option.{option_or}
+use Rattle.std.proofs.lemmas.List.{length-map}
+use Rattle.std.proofs.lemmas.Option.{slice_get-map}
+use Rattle.dsc_base.specs.declared.fault.Site.{Site}
+use Rattle.macho_image.specs.Records.{Img}
+use Rattle.dep_closure.specs.Breaks.{link_break}
+use Rattle.prebind.specs.Sets.{StreamLists, streams_break, lists_of, image_set, AreStreamsOf, IsSoundSet}
+
+neither : (a b : Option Site) → option_or a b ≡ None → (a ≡ None) × (b ≡ None)
+neither None b none = (refl, none)
+neither (Some s) b some = absurd (cc)
+
+pub streams_of_image : (image : Img) → streams_break image ≡ None → AreStreamsOf image (lists_of image)
+unfolding streams_break lists_of
+streams_of_image image none =
+    let rebase = neither _ _ none in
+    let bind = neither _ _ rebase.1 in
+    let lazy = neither _ _ bind.1 in
+    let weak = neither _ _ lazy.1 in
+    let clash = neither _ _ weak.1 in
+    let trie = neither _ _ clash.1 in
+    let split = neither _ _ trie.1 in
+    record {
+      rebases = refl;
+      rebases_accepted = rebase.0;
+      binds = refl;
+      binds_accepted = bind.0;
+      lazy_accepted = lazy.0;
+      weak_accepted = weak.0;
+      apart = clash.0;
+      exports = refl;
+      exports_accepted = trie.0;
+      references = inl (record { is = refl; accepted = split.0 });
+    }
+
+-- each image of some breaks no rule of its streams
+abbrev pub HaveStreams : List Img → Type 0
+HaveStreams images = (k : ℕ) (image : Img) → slice_get images k ≡ Some image → streams_break image ≡ None
+
+pub sound_set : (images : List Img) → length images ≤ 4097 → HaveStreams images → link_break images ≡ None → IsSoundSet (image_set images)
+unfolding image_set
+sound_set images few streams linked = record {
+  few = few;
+  many = length-map images lists_of;
+  streams = λ k image s image_is streams_is.
+      let own : Some s ≡ Some (lists_of image) = sym streams_is ∙ (slice_get-map lists_of images k ∙ ap (λ (o : Option Img). option_map lists_of o) image_is) in
+      subst (λ (t : StreamLists). AreStreamsOf image t) (same s (lists_of image) own) (streams_of_image image (streams k image image_is));
+  links = refl;
+  linked = linked;
+}
+  where
+    same : (s t : StreamLists) → Some s ≡ Some t → t ≡ s
+    same s t e = cc

@@ -1,0 +1,175 @@
+// Sets of small dylibs: where their words lead, and sets that break each of rules 131 to 137.
+ghost use Rattle.std.specs.Prelude.{◌≡◌, ◌<◌, None, length, map, All, IfOk, OnOk};
+ghost use Rattle.prebind.specs.Sets.{lists_of, streams_break, IsSoundSet};
+ghost use Rattle.prebind.specs.Steps.{set_of};
+
+mod dylibs;
+mod rows;
+mod streams;
+
+use crate::{ImageStreams, PlacedWord, Set, WordTarget, check_exports, place_words, read_streams};
+use dep_closure::link_set;
+use dsc_base::{Fault, SetFault};
+use dylibs::{Dylib, file_of};
+use macho_image::{Form, Image, read_image};
+use rows::{BINDS, EXPORTS, Led, POINTERS, REEXPORTS, Row};
+use std::alloc::Global;
+use std::process::Abort;
+use std::test::Fail;
+use streams::are_spelled;
+
+fn files_of(alloc: Global, dylibs: &[Dylib]) -> Result<Vec<Vec<u8>>, Fail> {
+    let mut files = Vec::new(alloc);
+    for dylib in dylibs {
+        files.push(file_of(alloc, dylib)?)?;
+    }
+    Ok(files)
+}
+
+fn images_of<'a>(alloc: Global, files: &'a [Vec<u8>]) -> Result<Vec<Image<'a>>, Fail> {
+    let mut images = Vec::new(alloc);
+    for file in files {
+        let image = read_image(alloc, file, 0, Form::Standalone)
+            .ok()
+            .ok_or("the dylib is read")?;
+        images.push(image)?;
+    }
+    Ok(images)
+}
+
+fn streams_in<'a>(alloc: Global, image: &Image<'a>) -> Result<ImageStreams<'a>, Fail>
+    ensures lists { IfOk result (λ s. s ≡ lists_of image.now) }
+    ensures unbroken { OnOk result (streams_break image.now ≡ None) }
+{
+    match read_streams(alloc, image) {
+        Ok((streams, _)) => Ok(streams),
+        Err(_) => Err("the streams are read")?,
+    }
+}
+
+fn streams_of<'a>(alloc: Global, images: &[Image<'a>]) -> Result<Vec<ImageStreams<'a>>, Fail>
+    ensures lists { IfOk result (λ v. v.items ≡ map lists_of images.now) }
+    ensures unbroken { OnOk result (All (λ i. streams_break i ≡ None) images.now) }
+{
+    let mut streams = Vec::new(alloc);
+    for image in images {
+        let read = streams_in(alloc, image)?;
+        streams.push(read)?;
+    }
+    Ok(streams)
+}
+
+// The words of the first image, where its exports are accepted.
+fn first_words(alloc: Global, set: &Set<'_, '_>) -> Result<Vec<PlacedWord>, SetFault>
+    requires sound { IsSoundSet (set_of set.now) }
+    requires some { 0 < length set.now.images.now }
+{
+    check_exports(alloc, set, 0)?;
+    place_words(alloc, set, 0)
+}
+
+fn words_of(alloc: Global, files: &[Vec<u8>]) -> Result<Result<Vec<PlacedWord>, SetFault>, Fail> {
+    let images = images_of(alloc, files)?;
+    let streams = streams_of(alloc, &images)?;
+    if images.is_empty() || images.len() > 4097 {
+        return Err("few images")?;
+    }
+    match link_set(alloc, &images) {
+        Ok(links) => {
+            let set = Set {
+                images: &images,
+                streams: &streams,
+                links: &links,
+            };
+            Ok(first_words(alloc, &set))
+        }
+        Err(_) => Err("the set is linked")?,
+    }
+}
+
+fn led(word: &PlacedWord) -> Led {
+    match word.target {
+        WordTarget::Place {
+            image,
+            segment,
+            distance,
+        } => (word.at.address, Some((image, segment)), distance),
+        WordTarget::Constant(number) => (word.at.address, None, number),
+    }
+}
+
+fn are_led(rt: &impl Abort, found: &[PlacedWord], wanted: &[Led], title: &str) {
+    assert_eq!(rt; found.len(), wanted.len(), "{title}");
+    for (word, wanted) in found.iter().zip(wanted) {
+        assert_eq!(rt; led(word), *wanted, "{title}");
+    }
+}
+
+fn row_stands(rt: &impl Abort, alloc: Global, row: &Row) -> Result<(), Fail> {
+    let (title, dylibs, wanted) = *row;
+    let files = files_of(alloc, dylibs)?;
+    match (words_of(alloc, &files)?, wanted) {
+        (Ok(found), Ok(words)) => are_led(rt, &found, words, title),
+        (Err(SetFault::Broken(found)), Err((rule, at))) => {
+            assert_eq!(rt;
+                (found.rule.number(), found.image, found.at),
+                (rule, 0, at),
+                "{title}"
+            );
+        }
+        _ => assert!(rt; false, "{title}"),
+    }
+    Ok(())
+}
+
+fn rows_stand(rt: &impl Abort, alloc: Global, rows: &[Row]) -> Result<(), Fail> {
+    for row in rows {
+        row_stands(rt, alloc, row)?;
+    }
+    Ok(())
+}
+
+#[test]
+fn pointers(rt: HostRuntime) -> Result<(), Fail> {
+    rows_stand(&rt, rt.alloc(), &POINTERS)
+}
+
+#[test]
+fn binds(rt: HostRuntime) -> Result<(), Fail> {
+    rows_stand(&rt, rt.alloc(), &BINDS)
+}
+
+#[test]
+fn reexports(rt: HostRuntime) -> Result<(), Fail> {
+    rows_stand(&rt, rt.alloc(), &REEXPORTS)
+}
+
+#[test]
+fn exports(rt: HostRuntime) -> Result<(), Fail> {
+    rows_stand(&rt, rt.alloc(), &EXPORTS)
+}
+
+fn spells(rt: &impl Abort, alloc: Global, row: &streams::Row) -> Result<(), Fail> {
+    let (dylib, wanted) = row;
+    let file = file_of(alloc, dylib)?;
+    let image = read_image(alloc, &file, 0, Form::Standalone)
+        .ok()
+        .ok_or("the dylib is read")?;
+    match (read_streams(alloc, &image), wanted) {
+        (Ok((found, exports)), Ok(wanted)) => are_spelled(rt, &found, &exports, wanted),
+        (Err(Fault::Broken(site)), Err(wanted)) => {
+            assert_eq!(rt; (site.rule.number(), site.at), *wanted);
+        }
+        _ => assert!(rt; false),
+    }
+    Ok(())
+}
+
+#[test]
+fn streams_are_read(rt: HostRuntime) -> Result<(), Fail> {
+    let alloc = rt.alloc();
+    for row in &streams::ROWS {
+        spells(&rt, alloc, row)?;
+    }
+    Ok(())
+}
