@@ -1,7 +1,6 @@
 -- What the tests of one file amount to.
 use Rattle.std.proofs.Common.{◌≡◌, ◌≤◌, ℕ, true, false, not, ◌||◌, if◌then◌else◌, nat_eq, nat_lt, Option, Some, None, List, [], ◌∷◌, length, refl, sym, ap, ◌∙◌, subst, arith}
-use Rattle.std.specs.Prelude.{Result, Ok, Err, IsErrAnd, IfErr}
-use Rattle.std.specs.Prelude.{unwrap_or}
+use Rattle.std.specs.Prelude.{Result, Ok, Err, IsErrAnd, IfErr, unwrap_or}
 use Rattle.std.specs.Option.{option_or, option_map, is_none}
 use Rattle.std.proofs.lemmas.Bool.{cond-true, cond-false}
 use Rattle.std.proofs.lemmas.Bool.Decides.{nat_tests}
@@ -16,8 +15,8 @@ use Rattle.macho_image.specs.declared.form.Form.TheVariants.{Standalone}
 use Rattle.macho_image.specs.Records.{Img}
 use Rattle.macho_image.specs.Macho.{image_of, image_from, header_in, streams_of, loads_of, segment_loads, segment_of, commands_of, command_where, is_split_info, part_in}
 use Rattle.macho_image.specs.Rules.{breaks_not_mach_o, breaks_command_shape}
-use Rattle.macho_image.specs.Breaks.{image_break, image_at, image_unless, broken, first_break}
-use Rattle.macho_image.specs.Refuses.{IsRefusal}
+use Rattle.macho_image.specs.Breaks.{image_break, image_at, image_unless}
+use Rattle.dsc_base.specs.Refusals.{broken, first_break, IsRefusal}
 use Rattle.cache_build.specs.Breaks.{is_universal, breaks_not_yet, shape_break}
 use Rattle.cache_build.proofs.Unbroken.{Unbroken, unbroken_from}
 

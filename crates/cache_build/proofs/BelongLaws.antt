@@ -7,11 +7,11 @@ use Rattle.std.proofs.lemmas.List.Sorted.{IsNonDecreasingBy-from_all_adjacent}
 use Rattle.macho_image.specs.Records.{Seg, Img}
 use Rattle.macho_image.specs.Breaks.{IsSound}
 use Rattle.macho_image.specs.declared.place.Location.{Location}
-use Rattle.word_places.specs.Places.{IsWord}
-use Rattle.word_places.specs.Segments.{contains, inside}
-use Rattle.word_places.specs.declared.segment_index.Inside.{Inside}
-use Rattle.word_places.proofs.SegmentLaws.{AreApart, contains_yes, contains_low, contains_high, inside_here}
-use Rattle.word_places.proofs.SoundSegments.{segments_keep_apart}
+use Rattle.macho_image.specs.Places.{IsWord}
+use Rattle.macho_image.specs.Segments.{contains, inside}
+use Rattle.macho_image.specs.declared.places.segment_index.Inside.{Inside}
+use Rattle.macho_image.proofs.SegmentLaws.{AreApart, contains_yes, contains_low, contains_high, inside_here}
+use Rattle.macho_image.proofs.SoundSegments.{segments_keep_apart}
 use Rattle.rebase_ops.specs.Rebases.{AreRebases}
 use Rattle.cache_build.specs.Setting.{Belong}
 

@@ -12,13 +12,13 @@ use Rattle.dsc_base.specs.declared.fault.SetFault.TheVariants.{Broken, Memory}
 use Rattle.macho_image.specs.Records.{Seg, Img}
 use Rattle.macho_image.specs.Macho.{image_of}
 use Rattle.macho_image.specs.Breaks.{IsSound}
-use Rattle.cache_layout.specs.Layouts.{Laid, layout_of, layout_break, IsLayoutRefusal}
+use Rattle.cache_layout.specs.Layouts.{Laid, layout_of, layout_break}
 use Rattle.cache_layout.specs.Apart.{IsSegment}
 use Rattle.cache_layout.proofs.SoundLaws.{sound_name}
 use Rattle.cache_build.specs.declared.frame.Frame.{Frame}
 use Rattle.cache_build.specs.Places.{span_of, frame_of}
 use Rattle.cache_build.specs.Breaks.{shape_break, in_each, streams_break, duplicate_break, pointer_break, too_large_at, linkedit_break, images_of, images_break, set_break}
-use Rattle.cache_build.specs.Built.{IsSetRefusal}
+use Rattle.dsc_base.specs.Refusals.{IsSetRefusal}
 use Rattle.cache_build.specs.Fits.{CanAssemble}
 use Rattle.cache_build.proofs.SoundSets.{sound_images}
 use Rattle.cache_build.specs.Setting.{CanLink}
@@ -97,7 +97,7 @@ pointers_passed files images led =
     streams_passed files images led.passed ∙ (ap (λ (o : Option Break). option_or o (behind_names images)) led.distinct ∙ ap (λ (o : Option Break). option_or o (behind_pointers images)) led.lead)
 
 -- then the layout
-pub set_layout : (files : List (List ℕ)) (images : List Img) (fault : SetFault) → PassPointers files images → IsLayoutRefusal images fault → IsSetRefusal (set_break files) fault
+pub set_layout : (files : List (List ℕ)) (images : List Img) (fault : SetFault) → PassPointers files images → IsSetRefusal (layout_break images) fault → IsSetRefusal (set_break files) fault
 set_layout files images (Broken b) led found = pointers_passed files images led ∙ ap (λ (o : Option Break). option_or o (linkedit_break images)) found
 set_layout files images Memory led found = tt
 

@@ -8,9 +8,9 @@ use Rattle.std.proofs.lemmas.Iterator.Adapters.{position_from-zero}
 use Rattle.dsc_base.specs.declared.fault.Site.{Site}
 use Rattle.dsc_base.specs.declared.rule.Rule.TheVariants.{PointsIntoLinkedit, RebaseOutside}
 use Rattle.macho_image.specs.Records.{Seg}
-use Rattle.macho_image.specs.Breaks.{broken}
+use Rattle.dsc_base.specs.Refusals.{broken}
 use Rattle.macho_image.specs.declared.place.Location.{Location}
-use Rattle.word_places.specs.declared.segment_index.Inside.{Inside}
+use Rattle.macho_image.specs.declared.places.segment_index.Inside.{Inside}
 use Rattle.cache_build.specs.Breaks.{in_image, in_each, led_to, is_in_linkedit, pointers_break}
 
 -- ---- a phase that speaks of one image at a time

@@ -11,10 +11,10 @@ use Rattle.macho_image.specs.Rules.{is_linkedit_segment}
 use Rattle.macho_image.specs.declared.place.Location.{Location}
 use Rattle.macho_image.specs.declared.place.Moved.{Moved}
 use Rattle.macho_image.specs.declared.section.Section.{Section}
-use Rattle.word_places.specs.Places.{IsWord}
-use Rattle.word_places.specs.declared.segment_index.Inside.{Inside}
-use Rattle.word_places.specs.Order.{addresses_of}
-use Rattle.word_places.proofs.SegmentLaws.{inside_some}
+use Rattle.macho_image.specs.Places.{IsWord}
+use Rattle.macho_image.specs.declared.places.segment_index.Inside.{Inside}
+use Rattle.macho_image.specs.Order.{addresses_of}
+use Rattle.macho_image.proofs.SegmentLaws.{inside_some}
 use Rattle.macho_edit.specs.MovedImage.{moved_image}
 use Rattle.cache_layout.specs.Layouts.{Laid, layout_of}
 use Rattle.cache_layout.specs.Apart.{IsSegment, move_at}

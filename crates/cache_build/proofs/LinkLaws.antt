@@ -1,5 +1,5 @@
 -- Data whose pointers are set and linked.
-use Rattle.std.proofs.Common.{◌≡◌, ◌≤◌, ◌<◌, ◌+◌, ◌-◌, ◌*◌, ◌/◌, ◌%◌, ◌^◌, ℕ, List, [], ◌∷◌, ◌++◌, take, drop, length, refl, sym, ap, ap₂, subst, ◌∙◌, arith, length-append}
+use Rattle.std.proofs.Common.{Option, Some, None, nat_lt, ◌≡◌, ◌≤◌, ◌<◌, ◌+◌, ◌-◌, ◌*◌, ◌/◌, ◌%◌, ◌^◌, ℕ, List, [], ◌∷◌, ◌++◌, take, drop, length, refl, sym, ap, ap₂, subst, ◌∙◌, arith, length-append}
 use Rattle.std.specs.Prelude.{bit_and}
 use Rattle.std.specs.List.{All}
 use Rattle.std.proofs.lemmas.List.{append-nil, take_all, drop_all, take_rest, length-drop}
@@ -20,20 +20,33 @@ use Rattle.cache_layout.specs.Layouts.{Laid}
 use Rattle.cache_layout.specs.declared.mapping.Mapping.TheVariants.{Writable}
 use Rattle.cache_layout.specs.Parts.{mapping_part}
 use Rattle.slide_chain.specs.Chains.{Slide}
-use Rattle.slide_chain.specs.Making.{info_of, linking, AreWords, AllBelow, AreOutside, MakeCause}
+use Rattle.slide_chain.specs.Making.{info_of, linking, AreWords, AllBelow, AreOutside, extras_over, extras_site}
 use Rattle.load_model.specs.Linking.{IsPointer, places, ArePointers, linked_data}
 use Rattle.load_model.proofs.ChainLaws.{few_extras, length-starts}
 use Rattle.load_model.proofs.PointerLaws.{AreSet, pointers_set}
 use Rattle.slide_chain.specs.Info.{info_bytes}
-use Rattle.cache_build.specs.Built.{set_fault}
+use Rattle.dsc_base.specs.Refusals.{broken, in_set, IsRefusal}
+use Rattle.dsc_base.specs.declared.fault.Site.{Site}
+use Rattle.dsc_base.specs.declared.rule.Rule.TheVariants.{TooManyExtras}
+use Rattle.std.proofs.lemmas.Bool.{cond-false, le-ltb}
 use Rattle.cache_build.specs.Cache.{all_pages, headers_of}
 use Rattle.cache_build.specs.Pointers.{pointers_of}
 use Rattle.cache_build.specs.Fits.{HasMoves, CanAssemble}
 use Rattle.cache_build.specs.Setting.{CanChain, CanLink}
 
 -- there are never too many extras, so only memory may be wanting
-pub only_memory : (size : ℕ) (ws : List ℕ) (fault : Fault) (answer : SetFault) → AreWords 0 ws → MakeCause 16 size ws fault → answer ≡ set_fault 0 fault → answer ≡ SetMemory
-only_memory size ws (Broken site) answer words cause is = absurd (omega (arith, few_extras size ws words, cause.1))
+no_extras : (size : ℕ) (ws : List ℕ) → AreWords 0 ws → extras_site 16 size ws ≡ None
+unfolding extras_over
+no_extras size ws words =
+    let count : ℕ = length (info_of 16 size ws).extras in
+    ap (λ (o : Option ℕ). broken TooManyExtras o)
+    (cond-false (nat_lt 0x4000 (length (info_of 16 size ws).extras)) (Some (length (info_of 16 size ws).extras)) None (le-ltb 0x4000 (length (info_of 16 size ws).extras) (let none : length (info_of 16 size ws).extras ≡ 0 = few_extras size ws words in omega (arith, none))))
+
+pub only_memory : (size : ℕ) (ws : List ℕ) (fault : Fault) (answer : SetFault) → AreWords 0 ws → IsRefusal (extras_site 16 size ws) fault → answer ≡ in_set 0 fault → answer ≡ SetMemory
+only_memory size ws (Broken site) answer words cause is = absurd (none (sym (no_extras size ws words) ∙ cause))
+  where
+    none : ◌≡◌ {A = Option Site} None (Some site) → ⊥
+    none e = cc
 only_memory size ws Memory answer words cause is = is
 
 -- the mask of what is made

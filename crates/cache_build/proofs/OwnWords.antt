@@ -7,12 +7,12 @@ use Rattle.macho_image.specs.Records.{Img}
 use Rattle.macho_image.specs.Breaks.{IsSound}
 use Rattle.macho_image.specs.declared.section.Section.{Section}
 use Rattle.macho_image.specs.declared.place.Location.{Location}
-use Rattle.word_places.specs.Places.{IsWord, Precedes}
-use Rattle.word_places.specs.Segments.{inside}
-use Rattle.word_places.specs.declared.segment_index.Inside.{Inside}
-use Rattle.word_places.proofs.SectionLaws.{sections_in_order}
-use Rattle.word_places.proofs.SegmentLaws.{inside_here}
-use Rattle.word_places.proofs.SoundSegments.{segments_keep_apart}
+use Rattle.macho_image.specs.Places.{IsWord, Precedes}
+use Rattle.macho_image.specs.Segments.{inside}
+use Rattle.macho_image.specs.declared.places.segment_index.Inside.{Inside}
+use Rattle.macho_image.proofs.SectionLaws.{sections_in_order}
+use Rattle.macho_image.proofs.SegmentLaws.{inside_here}
+use Rattle.macho_image.proofs.SoundSegments.{segments_keep_apart}
 use Rattle.rebase_ops.specs.Rebases.{AreRebases}
 use Rattle.load_model.specs.Words.{Word}
 use Rattle.load_model.specs.Pointers.{rebases_in, offset_in, pointer_word}

@@ -12,13 +12,13 @@ use Rattle.dsc_base.specs.declared.fault.Break.{Break}
 use Rattle.dsc_base.specs.declared.rule.Rule.TheVariants.{PointsIntoLinkedit, RebaseOutside}
 use Rattle.macho_image.specs.Records.{Seg, Img}
 use Rattle.macho_image.specs.Rules.{is_linkedit_segment}
-use Rattle.macho_image.specs.Breaks.{broken}
+use Rattle.dsc_base.specs.Refusals.{broken}
 use Rattle.macho_image.specs.declared.place.Location.{Location}
 use Rattle.macho_image.proofs.Unbroken.{or_none, broken_none}
-use Rattle.word_places.specs.Places.{IsWord}
-use Rattle.word_places.specs.Segments.{inside}
-use Rattle.word_places.specs.declared.segment_index.Inside.{Inside}
-use Rattle.word_places.proofs.SegmentLaws.{inside_some}
+use Rattle.macho_image.specs.Places.{IsWord}
+use Rattle.macho_image.specs.Segments.{inside}
+use Rattle.macho_image.specs.declared.places.segment_index.Inside.{Inside}
+use Rattle.macho_image.proofs.SegmentLaws.{inside_some}
 use Rattle.rebase_ops.specs.Rebases.{rebase_break, AreRebases}
 use Rattle.rebase_ops.proofs.RebaseLaws.{accepted_rebases}
 use Rattle.load_model.specs.Limits.{set_too_large}

@@ -7,7 +7,7 @@ use Rattle.std.proofs.lemmas.List.Elements.{All-nil, All-cons}
 use Rattle.std.proofs.lemmas.List.Sums.{sum_by-cons}
 use Rattle.dsc_base.specs.declared.edits.Edit.{Edit}
 use Rattle.macho_image.specs.declared.place.Location.{Location}
-use Rattle.word_places.specs.Order.{addresses_of}
+use Rattle.macho_image.specs.Order.{addresses_of}
 use Rattle.slide_chain.specs.Making.{AreWords, AllBelow}
 use Rattle.load_model.specs.Linking.{IsPointer, places, ArePointers}
 

@@ -9,9 +9,9 @@ use Rattle.dsc_base.specs.declared.fault.Fault.TheVariants.{Broken, Memory}
 use Rattle.dsc_base.specs.declared.fault.SetFault.{SetFault}
 use Rattle.macho_image.specs.Records.{Img}
 use Rattle.macho_image.specs.Macho.{image_of}
-use Rattle.macho_image.specs.Refuses.{IsRefusal}
+use Rattle.dsc_base.specs.Refusals.{IsRefusal, in_set, IsSetRefusal}
 use Rattle.cache_build.specs.Breaks.{shape_break, in_each, images_of}
-use Rattle.cache_build.specs.Built.{contents, set_fault, IsSetRefusal}
+use Rattle.cache_build.specs.Built.{contents}
 
 abbrev pub File : Type 0
 File = Vec ℕ Global
@@ -59,7 +59,7 @@ unfolding in_each
 accepted_none files images n kept all = sym kept.rest ∙ ap (λ (fs : List (Vec ℕ Global)). in_each shape_break n (contents fs)) (drop_all n files all)
 
 pub refused : (files : List (Vec ℕ Global)) (images : List Img) (n : ℕ) (f : Vec ℕ Global) (bytes : List ℕ) (fault : Fault) (answer : SetFault) → AreAccepted files images n → n < length files → f ≡ get_or files n f → bytes ≡ f.items
-    → IsRefusal (shape_break bytes) fault → answer ≡ set_fault n fault → IsSetRefusal (in_each shape_break 0 (contents files)) answer
+    → IsRefusal (shape_break bytes) fault → answer ≡ in_set n fault → IsSetRefusal (in_each shape_break 0 (contents files)) answer
 refused files images n f bytes (Broken site) answer kept lt at same found is =
     subst (λ (a : SetFault). IsSetRefusal (in_each shape_break 0 (contents files)) a) (sym is)
     (sym (step files images n f kept lt at)

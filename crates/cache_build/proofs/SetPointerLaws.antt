@@ -17,10 +17,10 @@ use Rattle.dsc_base.proofs.EditLaws.{put_all-append}
 use Rattle.macho_image.specs.Records.{Seg, Img}
 use Rattle.macho_image.specs.declared.place.Location.{Location}
 use Rattle.macho_image.specs.declared.place.Moved.{Moved}
-use Rattle.word_places.specs.Segments.{contains, inside, number_in}
-use Rattle.word_places.specs.Index.{Indexes, found_in}
-use Rattle.word_places.specs.declared.segment_index.Entry.{Entry}
-use Rattle.word_places.specs.declared.segment_index.Inside.{Inside}
+use Rattle.macho_image.specs.Segments.{contains, inside, number_in}
+use Rattle.macho_image.specs.Index.{Indexes, found_in}
+use Rattle.macho_image.specs.declared.places.segment_index.Entry.{Entry}
+use Rattle.macho_image.specs.declared.places.segment_index.Inside.{Inside}
 use Rattle.cache_layout.specs.Layouts.{Laid}
 use Rattle.cache_layout.proofs.NumberedLaws.{take-step}
 use Rattle.load_model.specs.Linking.{places}

@@ -7,7 +7,8 @@ use Rattle.dsc_base.specs.declared.rule.Rule.TheVariants.{NotYet}
 use Rattle.macho_image.specs.declared.form.Form.TheVariants.{Standalone}
 use Rattle.macho_image.specs.Records.{Img}
 use Rattle.macho_image.specs.Macho.{image_of}
-use Rattle.macho_image.specs.Breaks.{image_break, broken, first_break, IsSound}
+use Rattle.macho_image.specs.Breaks.{image_break, IsSound}
+use Rattle.dsc_base.specs.Refusals.{broken, first_break}
 use Rattle.macho_image.proofs.Unbroken.{or_none, image_sound}
 use Rattle.cache_build.specs.Breaks.{is_universal, shape_break, in_each, images_of}
 use Rattle.cache_build.proofs.AcceptLaws.{not_yet_of}
@@ -21,7 +22,7 @@ unbroken_shape file none =
     ] none
 
 pub file_sound : (file : List ℕ) → shape_break file ≡ None → IsSound (image_of file 0)
-file_sound file none = image_sound Standalone file 0 (unbroken_shape file none)
+file_sound file none = image_sound Standalone file 0 (λ _. refl) (unbroken_shape file none)
 
 first_none : (k : ℕ) (o : Option Site) (rest : Option Break) → option_or {T = Break} (option_map {T = Site} {U = Break} (λ (s : Site). record { rule = s.rule; image = k; at = s.at }) o) rest ≡ None → (o ≡ None) × (rest ≡ None)
 first_none k None rest none = (refl, none)

@@ -7,18 +7,17 @@ use Rattle.dsc_base.specs.declared.fault.Fault.{Fault}
 use Rattle.dsc_base.specs.declared.fault.Fault.TheVariants.{Broken, Memory}
 use Rattle.dsc_base.specs.declared.fault.SetFault.{SetFault}
 use Rattle.macho_image.specs.Records.{Img}
-use Rattle.macho_image.specs.Refuses.{IsRefusal}
+use Rattle.dsc_base.specs.Refusals.{IsRefusal, in_set, IsSetRefusal}
 use Rattle.macho_image.specs.declared.place.Location.{Location}
 use Rattle.cache_layout.proofs.NumberedLaws.{map-push, take-step}
-use Rattle.load_model.specs.Limits.{set_limit}
+use Rattle.dsc_base.specs.Limits.{set_record_limit}
 use Rattle.load_model.specs.Pointers.{rebases_in}
 use Rattle.cache_build.specs.Breaks.{in_image, image_streams_break, streams_from, streams_break}
-use Rattle.cache_build.specs.Built.{set_fault, IsSetRefusal}
 
 -- the streams of so many images are read, with so many records
 pub record AreStreams (images : List Img) (streams : List (Vec Location Global)) (records n : ℕ) : Type 0 where
   pub rebases : map (λ (r : Vec Location Global). r.items) streams ≡ map rebases_in (take n images)
-  pub few : records ≤ set_limit
+  pub few : records ≤ set_record_limit
   pub rest : streams_from n records (drop n images) ≡ streams_from 0 0 images
 
 pub streams_start : (images : List Img) (streams : List (Vec Location Global)) → streams ≡ [] → AreStreams images streams 0 0
@@ -32,7 +31,7 @@ step images streams records n i read lt at =
     sym (ap (λ (is : List Img). streams_from n records is) (drop_more images n i lt ∙ ap (λ (j : Img). j ∷ drop (n + 1) images) (sym at))) ∙ read.rest
 
 pub streams_more : (images : List Img) (streams streams' : List (Vec Location Global)) (records n : ℕ) (i : Img) (r : Vec Location Global) (count : ℕ) → AreStreams images streams records n → n < length images → i ≡ get_or images n i
-    → image_streams_break records i ≡ None → r.items ≡ rebases_in i → records + length r.items ≤ set_limit → count ≡ length r.items → streams' ≡ streams ++ r ∷ [] → AreStreams images streams' (records + count) (n + 1)
+    → image_streams_break records i ≡ None → r.items ≡ rebases_in i → records + length r.items ≤ set_record_limit → count ≡ length r.items → streams' ≡ streams ++ r ∷ [] → AreStreams images streams' (records + count) (n + 1)
 streams_more images streams streams' records n i r count read lt at none found few counted grown =
     let rest : List Img = drop (n + 1) images in
     record {
@@ -55,7 +54,7 @@ unfolding streams_from
 streams_none images streams records n read all = sym read.rest ∙ ap (λ (l : List Img). streams_from n records l) (drop_all n images all)
 
 pub streams_refused : (images : List Img) (streams : List (Vec Location Global)) (records n : ℕ) (i : Img) (fault : Fault) (answer : SetFault) → AreStreams images streams records n → n < length images → i ≡ get_or images n i
-    → IsRefusal (image_streams_break records i) fault → answer ≡ set_fault n fault → IsSetRefusal (streams_break images) answer
+    → IsRefusal (image_streams_break records i) fault → answer ≡ in_set n fault → IsSetRefusal (streams_break images) answer
 streams_refused images streams records n i (Broken site) answer read lt at found is =
     subst (λ (a : SetFault). IsSetRefusal (streams_break images) a) (sym is)
     (sym (step images streams records n i read lt at)

@@ -15,7 +15,7 @@ use Rattle.macho_image.specs.Macho.{header_in, image_of, image_from}
 use Rattle.macho_image.specs.Rules.{is_linkedit_segment, breaks_wrong_kind}
 use Rattle.macho_image.specs.Breaks.{IsSound, form_of}
 use Rattle.macho_image.proofs.Unbroken.{image_unbroken, kind_unbroken, form_is}
-use Rattle.word_places.specs.Places.{IsWord}
+use Rattle.macho_image.specs.Places.{IsWord}
 use Rattle.macho_edit.specs.MovedImage.{moved_image}
 use Rattle.cache_layout.specs.Layouts.{Laid, layout_of, layout_break}
 use Rattle.cache_layout.specs.Apart.{IsSegment, AreInTurn, range_in, move_at}

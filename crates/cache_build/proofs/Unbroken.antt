@@ -7,8 +7,9 @@ use Rattle.dsc_base.specs.declared.rule.Rule.TheVariants.{NotMachO, WrongKind, C
 use Rattle.macho_image.specs.declared.form.Form.{Form}
 use Rattle.macho_image.specs.Records.{Load, SegmentLoad}
 use Rattle.macho_image.specs.Macho.{header_size, header_in, loads_of, segment_loads}
-use Rattle.macho_image.specs.Rules.{least, breaks_not_mach_o, breaks_wrong_kind, breaks_command_shape, breaks_unknown_command, breaks_command_twice, breaks_no_install_name, breaks_segment_shape, breaks_segment_place, breaks_segment_prot, breaks_section_shape, breaks_interposing, breaks_has_relocations, breaks_name_text, breaks_unsafe_name, breaks_linkedit_range}
-use Rattle.macho_image.specs.Breaks.{broken, first_break, kind_break, command_break, section_break, name_break, load_break, image_break}
+use Rattle.macho_image.specs.Rules.{breaks_not_mach_o, breaks_wrong_kind, breaks_command_shape, breaks_unknown_command, breaks_command_twice, breaks_no_install_name, breaks_segment_shape, breaks_segment_place, breaks_segment_prot, breaks_section_shape, breaks_interposing, breaks_has_relocations, breaks_name_text, breaks_unsafe_name, breaks_linkedit_range}
+use Rattle.dsc_base.specs.Refusals.{least, broken, first_break}
+use Rattle.macho_image.specs.Breaks.{kind_break, command_break, section_break, name_break, load_break, image_break}
 
 pub record Unbroken (form : Form) (b : List ℕ) (h : ℕ) (header : List ℕ) (ls : List Load) (ss : List SegmentLoad) : Type 0 where
   pub mach_o : breaks_not_mach_o header ≡ None

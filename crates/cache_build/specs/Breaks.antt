@@ -10,9 +10,10 @@ use Rattle.macho_image.specs.Records.{Seg, Img}
 use Rattle.macho_image.specs.declared.place.Location.{Location}
 use Rattle.macho_image.specs.Macho.{number_of, is_dyld_info, link_kind, is_split_info, is_symtab, is_dysymtab, is_function_starts, is_data_in_code, header_in, loads_of, segment_loads, command_where, commands_of, image_of}
 use Rattle.macho_image.specs.Rules.{first_load, same_bytes, is_linkedit_segment}
-use Rattle.macho_image.specs.Breaks.{image_break, broken, first_break}
-use Rattle.word_places.specs.Segments.{inside}
-use Rattle.word_places.specs.declared.segment_index.Inside.{Inside}
+use Rattle.macho_image.specs.Breaks.{image_break}
+use Rattle.dsc_base.specs.Refusals.{broken, first_break}
+use Rattle.macho_image.specs.Segments.{inside}
+use Rattle.macho_image.specs.declared.places.segment_index.Inside.{Inside}
 use Rattle.rebase_ops.specs.Rebases.{rebase_break}
 use Rattle.load_model.specs.Limits.{set_too_large}
 use Rattle.load_model.specs.Pointers.{rebases_in, value_in}

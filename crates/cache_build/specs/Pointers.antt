@@ -5,7 +5,7 @@ use Rattle.dsc_base.specs.declared.edits.Edit.{Edit}
 use Rattle.macho_image.specs.Records.{Seg, Img}
 use Rattle.macho_image.specs.declared.place.Location.{Location}
 use Rattle.macho_image.specs.declared.place.Moved.{Moved}
-use Rattle.word_places.specs.declared.segment_index.Inside.{Inside}
+use Rattle.macho_image.specs.declared.places.segment_index.Inside.{Inside}
 use Rattle.cache_layout.specs.Layouts.{Laid}
 use Rattle.cache_layout.specs.Apart.{move_at}
 use Rattle.load_model.specs.Memory.{wrap}

@@ -5,9 +5,9 @@ use Rattle.dsc_base.specs.declared.edits.Edit.{Edit}
 use Rattle.macho_image.specs.Records.{Seg, Img}
 use Rattle.macho_image.specs.declared.place.Location.{Location}
 use Rattle.macho_image.specs.declared.place.Moved.{Moved}
-use Rattle.word_places.specs.Segments.{contains, number_in}
-use Rattle.word_places.specs.Index.{found_in}
-use Rattle.word_places.specs.declared.segment_index.Entry.{Entry}
+use Rattle.macho_image.specs.Segments.{contains, number_in}
+use Rattle.macho_image.specs.Index.{found_in}
+use Rattle.macho_image.specs.declared.places.segment_index.Entry.{Entry}
 use Rattle.rebase_ops.specs.Rebases.{AreRebases}
 use Rattle.slide_chain.specs.Making.{AreWords, AllBelow, AreOutside}
 use Rattle.cache_layout.specs.Layouts.{Laid}

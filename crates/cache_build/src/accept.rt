@@ -1,10 +1,10 @@
 // Reading files and refusing those that break a rule of the first phase.
 ghost use Rattle.std.specs.Prelude.{◌≡◌, ◌≤◌, None, is_none, unwrap_or, length, IfOk, IfErr, OnOk, [], ◌∷◌, ◌++◌};
 ghost use Rattle.macho_image.specs.Macho.{image_of, loads_of, segment_loads, commands_of, command_where, is_split_info};
-ghost use Rattle.macho_image.specs.Refuses.{IsRefusal};
+ghost use Rattle.dsc_base.specs.Refusals.{IsRefusal, IsSetRefusal};
 ghost use Rattle.macho_image.specs.Rules.{breaks_command_shape};
 ghost use Rattle.cache_build.specs.Breaks.{breaks_not_yet, shape_break, in_each, images_of};
-ghost use Rattle.cache_build.specs.Built.{contents, IsSetRefusal};
+ghost use Rattle.cache_build.specs.Built.{contents};
 
 use crate::fault::of_image;
 use crate::not_yet::{begins_universal, unbuilt_command};

@@ -25,13 +25,21 @@ use dsc_base::{Gate, PAGE, SetFault};
 use macho_image::{Image, Location};
 use slide_chain::{make_slide_info, slide_info_bytes, write_chains};
 use std::alloc::Global;
+use std::thread::Threads;
 
 /// The bits of a word of the data that tell how far the next one is.
 const DELTA_BITS: u32 = 16;
 
 /// Links the words at these places of the data into chains, and gives the slide information, as bytes.
-fn link(alloc: Global, area: &mut [u8], words: &[u64]) -> Result<Vec<u8>, SetFault>
-    requires { CanChain area.old words.now }
+fn link<R: Threads + Sync>(
+    rt: &R,
+    alloc: Global,
+    area: &mut [u8],
+    words: &[u64],
+    jobs: u32,
+) -> Result<Vec<u8>, SetFault>
+    requires jobs { (1 ≤ jobs) × (jobs ≤ 64) }
+    requires chain { CanChain area.old words.now }
     ensures linked { OnOk result (area.new ≡ change_all (linking 0xFFFF words.now) area.old) }
     ensures info { IfOk result (λ v. v.items ≡ info_bytes (info_of 16 (length area.old) words.now)) }
     ensures cause { IfErr result (λ e. e ≡ Memory) }
@@ -40,19 +48,22 @@ fn link(alloc: Global, area: &mut [u8], words: &[u64]) -> Result<Vec<u8>, SetFau
         Ok(info) => info,
         Err(fault) => return Err(of_image(fault, 0)),
     };
-    write_chains(area, words, &info, 1);
+    write_chains(rt, area, words, &info, jobs);
     let bytes = slide_info_bytes(alloc, &info)?;
     Ok(bytes)
 }
 
 /// Sets the pointers in the data of a cache and links them into chains; gives the slide information.
-fn link_data(
+fn link_data<R: Threads + Sync>(
+    rt: &R,
     alloc: Global,
     area: &mut [u8],
     images: &[Image<'_>],
     streams: &[Vec<Location>],
     layout: &Layout,
+    jobs: u32,
 ) -> Result<Vec<u8>, SetFault>
+    requires jobs { (1 ≤ jobs) × (jobs ≤ 64) }
     requires few { length images.now ≤ 4096 }
     requires moves { HasMoves layout.now images.now }
     requires streams { map (λ r. r.items) streams.now ≡ map rebases_in images.now }
@@ -65,19 +76,22 @@ fn link_data(
     ensures cause { IfErr result (λ e. e ≡ Memory) }
 {
     let words = set_pointers(alloc, area, images, streams, layout)?;
-    let info = link(alloc, area, &words)?;
+    let info = link(rt, alloc, area, &words, jobs)?;
     Ok(info)
 }
 
 /// Appends the writable segments with their pointers set and linked; gives the slide information.
-fn append_data(
+fn append_data<R: Threads + Sync>(
+    rt: &R,
     alloc: Global,
     cache: &mut Vec<u8>,
     images: &[Image<'_>],
     streams: &[Vec<Location>],
     layout: &Layout,
     headers: &[Vec<u8>],
+    jobs: u32,
 ) -> Result<Vec<u8>, SetFault>
+    requires jobs { (1 ≤ jobs) × (jobs ≤ 64) }
     requires assembles { CanAssemble layout.now images.now }
     requires links { CanLink layout.now images.now }
     requires streams { map (λ r. r.items) streams.now ≡ map rebases_in images.now }
@@ -89,21 +103,32 @@ fn append_data(
 {
     let start = cache.len();
     append_mapping(cache, Mapping::Writable, images, headers)?;
-    let info = link_data(alloc, &mut cache[start..], images, streams, layout)?;
+    let info = link_data(
+        rt,
+        alloc,
+        &mut cache[start..],
+        images,
+        streams,
+        layout,
+        jobs,
+    )?;
     Ok(info)
 }
 
 /// The cache: head, segments by mapping, slide information and linkedit, each in whole pages. The bytes
 /// are allocated once and filled in order.
 #[tactic(auto, unfolding(crate::specs::Cache::cache_from, crate::specs::Places::frame_of))]
-pub fn assemble<G: Gate>(
+pub fn assemble<R: Threads + Sync, G: Gate>(
+    rt: &R,
     alloc: Global,
     images: &[Image<'_>],
     streams: &[Vec<Location>],
     layout: &Layout,
     frame: &Frame,
+    jobs: u32,
     gate: &G,
 ) -> Result<Vec<u8>, SetFault>
+    requires jobs { (1 ≤ jobs) × (jobs ≤ 64) }
     requires assembles { CanAssemble layout.now images.now }
     requires links { CanLink layout.now images.now }
     requires streams { map (λ r. r.items) streams.now ≡ map rebases_in images.now }
@@ -116,7 +141,9 @@ pub fn assemble<G: Gate>(
     let mut cache = Vec::with_capacity(alloc, frame.span as usize)?;
     append_padded(&mut cache, &head, layout.text().at)?;
     append_mapping(&mut cache, Mapping::Text, images, &headers)?;
-    let slide_info = append_data(alloc, &mut cache, images, streams, layout, &headers)?;
+    let slide_info = append_data(
+        rt, alloc, &mut cache, images, streams, layout, &headers, jobs,
+    )?;
     append_mapping(&mut cache, Mapping::Fixed, images, &headers)?;
     append_padded(&mut cache, &slide_info, frame.linkedit_at - frame.slide_at)?;
     append_padded(&mut cache, &[0], PAGE)?;

@@ -1,7 +1,8 @@
 // Building a cache of a set of dylibs.
 ghost use Rattle.std.specs.Prelude.{◌≡◌, ◌≤◌, ◌<◌, None, length, All, IfOk, IfErr, OnOk};
 ghost use Rattle.cache_build.specs.Breaks.{set_break, too_large_at};
-ghost use Rattle.cache_build.specs.Built.{contents, IsSetRefusal, built};
+ghost use Rattle.cache_build.specs.Built.{contents, built};
+ghost use Rattle.dsc_base.specs.Refusals.{IsSetRefusal};
 ghost use Rattle.cache_build.specs.Always.{CorrespondsAlways};
 
 use crate::accept::accept_all;
@@ -11,12 +12,9 @@ use crate::frame::Frame;
 use crate::streams::read_streams;
 use crate::targets::first_stray;
 use cache_layout::lay_out;
-use dsc_base::{Break, Gate, Rule, SetFault};
+use dsc_base::{Break, Gate, Rule, SPAN_LIMIT, SetFault};
 use std::alloc::Global;
 use std::thread::Threads;
-
-/// The greatest size of a cache in bytes.
-const SPAN_LIMIT: u64 = 0x2000_0000;
 
 /// How to build: with how many workers, and with how many bits for the distance to the next word of a
 /// chain.
@@ -58,8 +56,8 @@ fn files_are_bytes(files: &[Vec<u8>])
 }
 
 /// The cache of the files, or the first rule that they break.
-pub fn build<R: Threads, G: Gate + Sync>(
-    _rt: &R,
+pub fn build<R: Threads + Sync, G: Gate + Sync>(
+    rt: &R,
     alloc: Global,
     files: &[Vec<u8>],
     options: &Options,
@@ -88,6 +86,15 @@ pub fn build<R: Threads, G: Gate + Sync>(
     if let Some(found) = too_large(frame.span) {
         return Err(SetFault::Broken(found));
     }
-    let cache = assemble(alloc, &images, &streams, &layout, &frame, gate)?;
+    let cache = assemble(
+        rt,
+        alloc,
+        &images,
+        &streams,
+        &layout,
+        &frame,
+        options.jobs,
+        gate,
+    )?;
     Ok(cache)
 }

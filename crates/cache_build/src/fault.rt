@@ -1,12 +1,12 @@
 // A fault of one image as one of the set.
 ghost use Rattle.std.specs.Prelude.{◌≡◌};
-ghost use Rattle.cache_build.specs.Built.{set_fault};
+ghost use Rattle.dsc_base.specs.Refusals.{in_set};
 
 use dsc_base::{Break, Fault, SetFault};
 
 /// The fault, told of the image of this number.
 pub fn of_image(fault: Fault, image: u32) -> SetFault
-    ensures { result ≡ set_fault image fault }
+    ensures { result ≡ in_set image fault }
 {
     match fault {
         Fault::Broken(site) => SetFault::Broken(Break {

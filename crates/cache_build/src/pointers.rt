@@ -2,7 +2,7 @@
 ghost use Rattle.std.specs.Prelude.{◌≡◌, ◌≤◌, ◌<◌, ◌++◌, [], nat_lt, map, filter, length, slice_index_or, OnOk, IfOk};
 ghost use Rattle.std.specs.List.Sorted.{IsNonDecreasingBy};
 ghost use Rattle.dsc_base.specs.Edits.{AllInside, put_all};
-ghost use Rattle.word_places.specs.Segments.{contains};
+ghost use Rattle.macho_image.specs.Segments.{contains};
 ghost use Rattle.load_model.specs.Linking.{places};
 ghost use Rattle.load_model.specs.Pointers.{rebases_in};
 ghost use Rattle.cache_build.specs.Pointers.{moved_number, image_pointers, pointers_of};
@@ -12,9 +12,8 @@ ghost use Rattle.cache_build.specs.Fits.{HasMoves};
 
 use cache_layout::Layout;
 use dsc_base::{NoMemory, put_u64};
-use macho_image::{Image, Location, Moved, Segment};
+use macho_image::{Image, Inside, Location, Moved, Segment, SegmentIndex, number_at_address};
 use std::alloc::Global;
-use word_places::{Inside, SegmentIndex, number_at_address};
 
 fn contains(segment: &Segment<'_>, address: u64) -> bool
     ensures { result ≡ contains segment.now address }

@@ -1,31 +1,27 @@
 // The streams of a set, read image by image.
 ghost use Rattle.std.specs.Prelude.{◌≡◌, ◌≤◌, ◌+◌, None, map, length, IfOk, IfErr, OnOk};
-ghost use Rattle.macho_image.specs.Refuses.{IsRefusal};
-ghost use Rattle.load_model.specs.Limits.{set_limit};
+ghost use Rattle.dsc_base.specs.Refusals.{IsRefusal, IsSetRefusal};
+ghost use Rattle.dsc_base.specs.Limits.{set_record_limit};
 ghost use Rattle.load_model.specs.Pointers.{rebases_in};
 ghost use Rattle.cache_build.specs.Breaks.{image_streams_break, streams_break};
-ghost use Rattle.cache_build.specs.Built.{IsSetRefusal};
 
 use crate::fault::of_image;
-use dsc_base::{Fault, Rule, SetFault, Site};
+use dsc_base::{Fault, Rule, SET_RECORD_LIMIT, SetFault, Site};
 use macho_image::{Image, Location};
 use rebase_ops::read_rebases;
 use std::alloc::Global;
 
-/// The most records of all streams of a set.
-const SET_LIMIT: u64 = 16_777_216;
-
 /// The rebases of an image, where so many records stand in the images before it.
 #[tactic(auto, unfolding(crate::specs::Breaks::image_streams_break, load_model::specs::Limits::set_too_large))]
 fn image_rebases(alloc: Global, image: &Image<'_>, records: u64) -> Result<Vec<Location>, Fault>
-    requires { records ≤ set_limit }
+    requires { records ≤ set_record_limit }
     ensures rebases { IfOk result (λ v. v.items ≡ rebases_in image.now) }
-    ensures few { IfOk result (λ v. records + length v.items ≤ set_limit) }
+    ensures few { IfOk result (λ v. records + length v.items ≤ set_record_limit) }
     ensures unbroken { OnOk result (image_streams_break records image.now ≡ None) }
     ensures cause { IfErr result (IsRefusal (image_streams_break records image.now)) }
 {
     let rebases = read_rebases(alloc, image.streams.rebase, image)?;
-    if records + rebases.len() as u64 > SET_LIMIT {
+    if records + rebases.len() as u64 > SET_RECORD_LIMIT {
         return Err(Fault::Broken(Site {
             rule: Rule::SetTooLarge,
             at: 0,

@@ -1,14 +1,13 @@
 // Rules 135 and 136: where the pointers of a set lead.
 ghost use Rattle.std.specs.Prelude.{◌≡◌, ◌≤◌, Option, None, Some, is_none, map, length, slice_get, if◌then◌else◌, IfOk};
 ghost use Rattle.std.specs.Option.{option_or};
-ghost use Rattle.word_places.specs.Index.{Indexes};
+ghost use Rattle.macho_image.specs.Index.{Indexes};
 ghost use Rattle.load_model.specs.Pointers.{value_in, rebases_in};
 ghost use Rattle.cache_build.specs.Breaks.{is_in_linkedit, pointers_break, pointer_break, in_each};
 
 use dsc_base::{Break, NoMemory, Rule, Site};
-use macho_image::{Image, Location, Segment};
+use macho_image::{Image, Inside, Location, Segment, SegmentIndex, number_at_address};
 use std::alloc::Global;
-use word_places::{Inside, SegmentIndex, number_at_address};
 
 /// The number that an image has at a word, in its file.
 fn value(segments: &[Segment<'_>], word: Location) -> u64

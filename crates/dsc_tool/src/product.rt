@@ -21,7 +21,7 @@ pub struct Product {
 }
 
 /// Reads the words and the inputs that they name, and builds their cache. Nothing is put.
-pub(crate) fn prepare<R: Threads, S: Store, G: Gate + Sync>(
+pub(crate) fn prepare<R: Threads + Sync, S: Store, G: Gate + Sync>(
     rt: &R,
     alloc: Global,
     words: &[String],

@@ -19,7 +19,7 @@ use std::thread::Threads;
 /// 536,870,912 of all, puts their cache at OUT, and tells of it on `out`. Any other answer than `Done` is
 /// told of on `err`. Nothing is put before the inputs have passed all rules. Where a put on the store or a sink fails, the answer is `WriteFault`,
 /// whatever it would have been.
-pub fn run<R: Threads, S: Store, O: Sink, E: Sink, G: Gate + Sync>(
+pub fn run<R: Threads + Sync, S: Store, O: Sink, E: Sink, G: Gate + Sync>(
     rt: &R,
     alloc: Global,
     words: &[String],

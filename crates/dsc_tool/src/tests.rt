@@ -23,7 +23,7 @@ struct Answer {
 }
 
 // Runs the words of the line, with room for so many bytes on each stream.
-fn run_line<R: Threads, S: Store>(
+fn run_line<R: Threads + Sync, S: Store>(
     rt: &R,
     alloc: Global,
     line: &str,
@@ -285,7 +285,7 @@ fn other_files_are_refused(rt: HostRuntime) -> Result<(), Fail> {
 const AT_THE_EDGE: [(usize, u32); 3] = [(0x1CC, 6), (0x3000, 0x1FF8_2111), (0x3004, 0x51)];
 
 // A file alone is refused with this text, and nothing is put.
-fn is_refused<R: Threads + Abort>(
+fn is_refused<R: Threads + Sync + Abort>(
     rt: &R,
     alloc: Global,
     file: Vec<u8>,

@@ -9,9 +9,9 @@ use Rattle.std.proofs.lemmas.Option.{slice_get-map, slice_get_within, get_or_fro
 use Rattle.macho_image.specs.Records.{Seg, Img}
 use Rattle.macho_image.specs.declared.place.Location.{Location}
 use Rattle.dsc_base.specs.Numbers.{number_at}
-use Rattle.word_places.specs.Segments.{number_in}
-use Rattle.word_places.specs.Order.{addresses_of}
-use Rattle.word_places.specs.Places.{IsWord}
+use Rattle.macho_image.specs.Segments.{number_of, number_in}
+use Rattle.macho_image.specs.Order.{addresses_of}
+use Rattle.macho_image.specs.Places.{IsWord}
 use Rattle.rebase_ops.specs.Rebases.{AreRebases}
 use Rattle.slide_chain.specs.Making.{AreWords, AllBelow}
 use Rattle.load_model.specs.Memory.{Cells, wrap, with_number, number_from, HasNumber}
@@ -108,7 +108,7 @@ rebases_low image ls apart rebases = words_low image ls apart rebases.all
 
 -- a word of an image that is loaded has the number that it has in the file
 pub loaded_number : (slide : ℕ) (image : Img) (l : Location) → AreApart image.segments → IsWord image l → number_from 8 (segments_at slide image.segments) (wrap (l.address + slide)) ≡ value_of image l
-unfolding value_of number_in number_at
+unfolding value_of number_of number_at
 loaded_number slide image l apart word =
     let s : Seg = word.segment in
     let d : ℕ = l.address - word.segment.vmaddr in

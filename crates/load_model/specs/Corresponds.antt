@@ -5,8 +5,8 @@ use Rattle.dsc_base.specs.Numbers.{big_number}
 use Rattle.macho_image.specs.Records.{Seg, Img}
 use Rattle.macho_image.specs.Rules.{is_linkedit_segment}
 use Rattle.macho_image.specs.declared.section.Section.{Section}
-use Rattle.word_places.specs.Segments.{inside}
-use Rattle.word_places.specs.declared.segment_index.Inside.{Inside}
+use Rattle.macho_image.specs.Segments.{inside}
+use Rattle.macho_image.specs.declared.places.segment_index.Inside.{Inside}
 use Rattle.load_model.specs.Memory.{Cells, wrap, above, HasNumber}
 use Rattle.load_model.specs.Words.{Word, Starts, LeadsTo, width_of, Exported, ExportTarget, Offset, Absolute, Reexport}
 use Rattle.load_model.specs.Loading.{Linked, linked, start_of, loaded, loaded_starts}

@@ -2,7 +2,7 @@
 use Rattle.std.specs.Prelude.{◌≡◌, ℕ, ◌+◌, ◌-◌, ◌*◌, List, [], ◌∷◌, ◌++◌, replicate, Option, Some, None, slice_get, map}
 use Rattle.std.specs.List.{enumerate_from}
 use Rattle.macho_image.specs.Records.{Seg, Img}
-use Rattle.word_places.specs.Order.{addresses_of}
+use Rattle.macho_image.specs.Order.{addresses_of}
 use Rattle.load_model.specs.Memory.{Cells, nowhere, wrap, with_bytes, with_number, number_from}
 use Rattle.load_model.specs.Words.{Target, Word, Starts, number_to, Exported}
 use Rattle.load_model.specs.Pointers.{rebases_in, pointer_word}

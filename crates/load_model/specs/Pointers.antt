@@ -3,8 +3,8 @@ use Rattle.std.specs.Prelude.{ℕ, ◌-◌, List, Option, Some, None, slice_get}
 use Rattle.macho_image.specs.Records.{Seg, Img}
 use Rattle.macho_image.specs.declared.place.Location.{Location}
 use Rattle.macho_image.specs.declared.section.Section.{Section}
-use Rattle.word_places.specs.Segments.{inside, number_in}
-use Rattle.word_places.specs.declared.segment_index.Inside.{Inside}
+use Rattle.macho_image.specs.Segments.{inside, number_in}
+use Rattle.macho_image.specs.declared.places.segment_index.Inside.{Inside}
 use Rattle.rebase_ops.specs.Rebases.{rebases_of}
 use Rattle.load_model.specs.Words.{Target, Place, Constant, Word, Pointer}
 

@@ -56,7 +56,7 @@ const BUILT: [Built<'static>; 3] = [
 
 // The cache that a line makes of the dylib with so many bytes of data, in which these numbers are set, and of a
 // second one with a page of data, after it has printed what is wanted.
-fn cache_of<R: Threads + Abort>(
+fn cache_of<R: Threads + Sync + Abort>(
     rt: &R,
     alloc: Global,
     line: &str,

@@ -1,7 +1,8 @@
 use Rattle.std.proofs.Common.{◌≤◌, ◌<◌, ℕ, List, get_or, Vec, Global, length, sym, ap, subst, ◌∙◌, arith}
 use Rattle.std.proofs.lemmas.List.{length-map}
 use Rattle.macho_image.specs.Records.{Img}
-use Rattle.cache_layout.specs.Layouts.{layout_of, layout_break, IsLayoutRefusal}
+use Rattle.dsc_base.specs.Refusals.{IsSetRefusal}
+use Rattle.cache_layout.specs.Layouts.{layout_of, layout_break}
 use Rattle.cache_build.specs.Breaks.{duplicate_break, pointer_break, in_each, set_break}
 use Rattle.cache_build.specs.Built.{contents}
 use Rattle.cache_build.specs.Fits.{CanAssemble}
@@ -46,7 +47,7 @@ returns-in_err-layout-clause-cause g c =
     let passed = pass_streams (contents c.args.files.now) images c.deref.result.now c.in_ok-images.ensures.images c.in_ok-images.ensures.unbroken c.deref.ensures.value c.in_ok-streams.ensures.unbroken in
     let led = pass_pointers (contents c.args.files.now) images c.deref-2.result.now c.deref-3.result.now passed c.deref-2.ensures.value (sym c.in_default.is ∙ c.in_ok-found.ensures) c.deref-3.ensures.value (sym c.in_default-2.is ∙ c.in_ok-found-2.ensures) in
     handed_set (set_break (contents c.args.files.now)) c.from_residual-in_err-layout.result c.in_err-layout.field-0.0 c.from_residual-in_err-layout.ensures.1
-    (set_layout (contents c.args.files.now) images c.in_err-layout.field-0.0 led (subst (λ (is : List Img). IsLayoutRefusal is c.in_err-layout.field-0.0) c.deref-5.ensures.value c.in_err-layout.ensures.cause))
+    (set_layout (contents c.args.files.now) images c.in_err-layout.field-0.0 led (subst (λ (is : List Img). IsSetRefusal (layout_break is) c.in_err-layout.field-0.0) c.deref-5.ensures.value c.in_err-layout.ensures.cause))
 
 pub returns-in-Some-too_large-clause-cause : goal.returns-in-Some-too_large-clause-cause
 returns-in-Some-too_large-clause-cause g c =
@@ -65,7 +66,7 @@ assemble-requires-clause-assembles g c =
     let ready : IsReady c.in_ok-images.images.items =
     set_ready (contents c.args.files.now) images c.in_ok-layout.layout c.behind-frame.result few c.files_are_bytes.ensures led (ap layout_break (sym c.deref-5.ensures.value) ∙ c.in_ok-layout.ensures.fits)
     (c.in_ok-layout.ensures.layout ∙ ap layout_of c.deref-5.ensures.value) c.behind-frame.ensures (sym c.in_default-too_large.is ∙ c.too_large.ensures) in
-    subst (λ (is : List Img). CanAssemble c.in_ok-layout.layout is) (sym c.deref-6.ensures.value) (set_assembles images c.in_ok-layout.layout ready (c.in_ok-layout.ensures.layout ∙ ap layout_of c.deref-5.ensures.value))
+    λ _ _. subst (λ (is : List Img). CanAssemble c.in_ok-layout.layout is) (sym c.deref-6.ensures.value) (set_assembles images c.in_ok-layout.layout ready (c.in_ok-layout.ensures.layout ∙ ap layout_of c.deref-5.ensures.value))
 
 pub assemble-requires-clause-links : goal.assemble-requires-clause-links
 assemble-requires-clause-links g c =
@@ -76,7 +77,7 @@ assemble-requires-clause-links g c =
     let ready : IsReady c.in_ok-images.images.items =
     set_ready (contents c.args.files.now) images c.in_ok-layout.layout c.behind-frame.result few c.files_are_bytes.ensures led (ap layout_break (sym c.deref-5.ensures.value) ∙ c.in_ok-layout.ensures.fits)
     (c.in_ok-layout.ensures.layout ∙ ap layout_of c.deref-5.ensures.value) c.behind-frame.ensures (sym c.in_default-too_large.is ∙ c.too_large.ensures) in
-    subst (λ (is : List Img). CanLink c.in_ok-layout.layout is) (sym c.deref-6.ensures.value) (set_links images c.in_ok-layout.layout ready (c.in_ok-layout.ensures.layout ∙ ap layout_of c.deref-5.ensures.value))
+    λ _ _. subst (λ (is : List Img). CanLink c.in_ok-layout.layout is) (sym c.deref-6.ensures.value) (set_links images c.in_ok-layout.layout ready (c.in_ok-layout.ensures.layout ∙ ap layout_of c.deref-5.ensures.value))
 
 pub returns-clause-unbroken : goal.returns-clause-unbroken
 returns-clause-unbroken g c =

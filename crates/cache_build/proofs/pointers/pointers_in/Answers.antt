@@ -3,7 +3,7 @@ use Rattle.std.specs.Prelude.{nat_lt}
 use Rattle.std.proofs.lemmas.List.{take_rest}
 use Rattle.std.proofs.lemmas.List.Sorted.{IsPartitionPoint-from_clause}
 use Rattle.macho_image.specs.declared.place.Location.{Location}
-use Rattle.word_places.specs.Segments.{contains}
+use Rattle.macho_image.specs.Segments.{contains}
 use Rattle.cache_build.proofs.SetPointerLaws.{IsPoint, below_first, contained_first, own_pointers}
 use Rattle.cache_build.proofs.pointers.pointers_in.Goals as goal
 

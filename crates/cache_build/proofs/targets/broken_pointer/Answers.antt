@@ -1,7 +1,7 @@
 use Rattle.std.proofs.Common.{◌≡◌, ℕ, arith, ap, sym, ◌∙◌, rules}
 use Rattle.dsc_base.specs.declared.rule.Rule.TheVariants.{RebaseOutside}
-use Rattle.macho_image.specs.Breaks.{broken}
-use Rattle.word_places.specs.Segments.{inside}
+use Rattle.dsc_base.specs.Refusals.{broken}
+use Rattle.macho_image.specs.Segments.{inside}
 use Rattle.cache_build.proofs.LeadLaws.{led_start, led_more, led_into, led_done}
 use Rattle.cache_build.proofs.targets.broken_pointer.Goals as goal
 
