@@ -8,7 +8,7 @@ use Rattle.std.proofs.lemmas.List.Elements.{All-head, All-tail}
 use Rattle.std.proofs.lemmas.Nat.Bits.{and_high}
 use Rattle.dsc_base.specs.declared.edits.Edit.{Edit}
 use Rattle.dsc_base.specs.Numbers.{number_at, little_bytes}
-use Rattle.dsc_base.specs.Edits.{put_all, AllInside, AllFit, ApartFrom, AllApart, RisesFrom, Holds, IsAmong, change_all, settled}
+use Rattle.dsc_base.specs.Edits.{put_all, AllInside, AllFit, ApartFrom, AllApart, RisesFrom, Holds, IsAmong, settled}
 use Rattle.dsc_base.proofs.EditLaws.{length-put_all, Holds-put_all, get_or-put_all, get_or-put_all_apart, in_one_or_apart, put_all-covered, rising_apart, change_all-settled}
 use Rattle.slide_chain.specs.Chains.{slid_area}
 use Rattle.slide_chain.specs.Making.{linking, info_of, AreWords, AllBelow, AreOutside, raising}

@@ -9,7 +9,7 @@ use Rattle.std.proofs.lemmas.Option.{slice_get-map, slice_get_within, get_or_fro
 use Rattle.macho_image.specs.Records.{Seg, Img}
 use Rattle.macho_image.specs.declared.place.Location.{Location}
 use Rattle.dsc_base.specs.Numbers.{number_at}
-use Rattle.macho_image.specs.Segments.{number_of, number_in}
+use Rattle.macho_image.specs.Segments.{number_of}
 use Rattle.macho_image.specs.Order.{addresses_of}
 use Rattle.macho_image.specs.Places.{IsWord}
 use Rattle.rebase_ops.specs.Rebases.{AreRebases}

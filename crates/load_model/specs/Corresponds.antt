@@ -1,5 +1,5 @@
 -- A mapped cache corresponds to files that are loaded separately.
-use Rattle.std.specs.Prelude.{◌≡◌, ◌<◌, ℕ, ◌+◌, ◌-◌, ◌*◌, ◌^◌, nat_eq, if◌then◌else◌, List, [], ◌∷◌, ◌++◌, length, filter, not, Option, Some, None, slice_get, ◌⊎◌}
+use Rattle.std.specs.Prelude.{◌≡◌, ◌<◌, ℕ, ◌+◌, ◌-◌, ◌*◌, ◌^◌, nat_eq, if◌then◌else◌, List, [], ◌∷◌, ◌++◌, length, filter, not, Option, Some, slice_get, ◌⊎◌}
 use Rattle.std.specs.List.{flat_map}
 use Rattle.dsc_base.specs.Numbers.{big_number}
 use Rattle.macho_image.specs.Records.{Seg, Img}
