@@ -20,11 +20,12 @@ use Rattle.cache_layout.specs.Apart.{IsSegment}
 use Rattle.cache_layout.proofs.PlaceLaws.{are_within}
 use Rattle.cache_layout.proofs.SoundLaws.{sound_linkedit}
 use Rattle.cache_layout.proofs.NumberedLaws.{numbered-get, length-numbered}
+use Rattle.prebind.proofs.SetLaws.{HaveStreams}
 use Rattle.load_model.specs.Mapped.{three_mappings}
 use Rattle.cache_build.specs.Places.{span_of}
-use Rattle.cache_build.specs.Breaks.{streams_break, in_each, pointer_break}
 use Rattle.cache_build.specs.Head.{entry_of, head_of}
 use Rattle.cache_build.specs.Fits.{Fits, CanAssemble}
+use Rattle.cache_build.proofs.ReadSets.{AreLed}
 use Rattle.cache_build.proofs.HeadLaws.{no_image, writable_head}
 use Rattle.cache_build.proofs.FitsLaws.{AreSound, can_assemble, two_segments, no_segment}
 
@@ -32,8 +33,8 @@ use Rattle.cache_build.proofs.FitsLaws.{AreSound, can_assemble, two_segments, no
 pub record IsReady (is : List Img) : Type 0 where
   pub few : length is ≤ 4096
   pub sound : AreSound is
-  pub streams : streams_break is ≡ None
-  pub lead : in_each pointer_break 0 is ≡ None
+  pub streams : HaveStreams is
+  pub lead : AreLed is
   pub none : layout_break is ≡ None
   pub small : span_of (layout_of is) ≤ 0x20000000
   pub bytes : (k g : ℕ) (i : Img) (s : Seg) → IsSegment is k g i s → (n : ℕ) → get_or s.bytes n 0 < 256

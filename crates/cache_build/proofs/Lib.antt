@@ -1,4 +1,3 @@
-pub mod AcceptLaws
 pub mod AmongLaws
 pub mod AssembleLaws
 pub mod BelongLaws
@@ -8,11 +7,9 @@ pub mod CacheLaws
 pub mod CachedImages
 pub mod CachedSegments
 pub mod DataBytes
-pub mod DuplicateLaws
 pub mod FitsLaws
 pub mod HeadFacts
 pub mod HeadLaws
-pub mod LeadLaws
 pub mod LedPointers
 pub mod LinkLaws
 pub mod MovedLaws
@@ -26,12 +23,7 @@ pub mod ReadSets
 pub mod RunLaws
 pub mod SectionLaws
 pub mod SegmentPages
-pub mod SetLaws
 pub mod SetPointerLaws
 pub mod SetPointers
-pub mod SoundSets
-pub mod StreamLaws
 pub mod Theorem
-pub mod Unbroken
-pub mod WalkLaws
 pub mod WholePages

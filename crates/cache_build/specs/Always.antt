@@ -4,7 +4,7 @@ use Rattle.load_model.specs.Loading.{Linked, linked_set, IsPlacement}
 use Rattle.cache_header.specs.Reading.{max_slide}
 use Rattle.load_model.specs.Mapped.{IsPermitted}
 use Rattle.load_model.specs.Corresponds.{Corresponds}
-use Rattle.cache_build.specs.Breaks.{images_of}
+use Rattle.load_model.specs.Phases.{images_of}
 
 -- the files as loading sees them: the images that they spell, with what their streams spell
 abbrev pub set_of : List (List ℕ) → List Linked

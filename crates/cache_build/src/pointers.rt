@@ -5,6 +5,7 @@ ghost use Rattle.dsc_base.specs.Edits.{AllInside, put_all};
 ghost use Rattle.macho_image.specs.Segments.{contains};
 ghost use Rattle.load_model.specs.Linking.{places};
 ghost use Rattle.load_model.specs.Pointers.{rebases_in};
+ghost use Rattle.prebind.specs.Sets.{lists_of};
 ghost use Rattle.cache_build.specs.Pointers.{moved_number, image_pointers, pointers_of};
 ghost use Rattle.rebase_ops.specs.Rebases.{AreRebases};
 ghost use Rattle.cache_build.specs.Setting.{edit_in, all_edits, Belong, AreRead};
@@ -13,6 +14,7 @@ ghost use Rattle.cache_build.specs.Fits.{HasMoves};
 use cache_layout::Layout;
 use dsc_base::{NoMemory, put_u64};
 use macho_image::{Image, Inside, Location, Moved, Segment, SegmentIndex, number_at_address};
+use prebind::ImageStreams;
 use std::alloc::Global;
 
 fn contains(segment: &Segment<'_>, address: u64) -> bool
@@ -142,10 +144,10 @@ fn set_in_image(
 }
 
 /// How many pointers there are.
-fn pointer_count(streams: &[Vec<Location>]) -> usize {
+fn pointer_count(streams: &[ImageStreams<'_>]) -> usize {
     let mut count: usize = 0;
-    for pointers in streams {
-        count = count.saturating_add(pointers.len());
+    for stream in streams {
+        count = count.saturating_add(stream.rebases.len());
     }
     count
 }
@@ -155,12 +157,12 @@ pub fn set_pointers(
     alloc: Global,
     area: &mut [u8],
     images: &[Image<'_>],
-    streams: &[Vec<Location>],
+    streams: &[ImageStreams<'_>],
     layout: &Layout,
 ) -> Result<Vec<u64>, NoMemory>
     requires few { length images.now ≤ 4096 }
     requires one_each { HasMoves layout.now images.now }
-    requires streams { map (λ r. r.items) streams.now ≡ map rebases_in images.now }
+    requires streams { streams.now ≡ map lists_of images.now }
     requires read { AreRead images.now }
     requires room { AllInside (length area.old) (pointers_of layout.now images.now) }
     ensures set { OnOk result (area.new ≡ put_all (pointers_of layout.now images.now) area.old) }
@@ -168,13 +170,14 @@ pub fn set_pointers(
 {
     let mut words = Vec::with_capacity(alloc, pointer_count(streams))?;
     for (number, image) in images.iter().enumerate() {
+        let read = &streams[number];
         set_in_image(
             alloc,
             area,
             &mut words,
             number as u32,
             image,
-            &streams[number],
+            &read.rebases,
             layout,
         )?;
     }

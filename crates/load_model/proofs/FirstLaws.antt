@@ -1,5 +1,5 @@
 -- The first break of images that are tried by their numbers.
-use Rattle.std.proofs.Common.{◌≡◌, ◌<◌, ℕ, zero, suc, ◌+◌, Option, Some, None, map, refl, ap, ◌∙◌, subst, arith, inl, inr}
+use Rattle.std.proofs.Common.{◌≡◌, ◌<◌, ℕ, zero, suc, ◌+◌, Option, Some, None, map, refl, sym, ap, ◌∙◌, subst, arith, inl, inr}
 use Rattle.std.specs.List.{range_with_len}
 use Rattle.std.specs.Option.{option_or}
 use Rattle.std.proofs.lemmas.Bool.{cases_lt}
@@ -8,6 +8,7 @@ use Rattle.dsc_base.specs.declared.fault.SetFault.{SetFault}
 use Rattle.dsc_base.specs.declared.fault.SetFault.TheVariants.{Broken, Memory}
 use Rattle.dsc_base.specs.Refusals.{first_break, IsSetRefusal}
 use Rattle.load_model.specs.Phases.{first_of}
+use Rattle.load_model.proofs.Unbroken.{neither}
 
 -- the first n images break nothing
 abbrev pub AreUnbroken : (ℕ → Option Break) → ℕ → Type 0
@@ -45,3 +46,16 @@ first_refused breaks n k (Broken b) lt none found =
     let at : 0 + k ≡ k = omega arith in
     some_from breaks 0 n k b lt (λ j lt. let same : 0 + j ≡ j = omega arith in ap breaks same ∙ none j lt) (ap breaks at ∙ found)
 first_refused breaks n k Memory lt none found = tt
+
+-- and the other way: where there is no first break, none of them breaks anything
+each_from : (breaks : ℕ → Option Break) (a n k : ℕ) → first_break (map breaks (range_with_len a n)) ≡ None → k < n → breaks (a + k) ≡ None
+each_from breaks a zero k none lt = absurd (omega arith)
+each_from breaks a (suc n) zero none lt =
+    let here : a ≡ a + 0 = omega arith in
+    ap breaks (sym here) ∙ (neither (breaks a) (first_break (map breaks (range_with_len (a + 1) n))) none).0
+each_from breaks a (suc n) (suc k) none lt =
+    let at : a + 1 + k ≡ a + suc k = omega arith in
+    ap breaks (sym at) ∙ each_from breaks (a + 1) n k (neither (breaks a) (first_break (map breaks (range_with_len (a + 1) n))) none).1 (omega (arith, lt))
+
+pub first_each : (breaks : ℕ → Option Break) (n : ℕ) → first_of breaks n ≡ None → AreUnbroken breaks n
+first_each breaks n none k lt = let same : 0 + k ≡ k = omega arith in ap breaks (sym same) ∙ each_from breaks 0 n k none lt

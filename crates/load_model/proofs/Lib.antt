@@ -1,4 +1,5 @@
 pub mod AcceptLaws
+pub mod AcceptedFiles
 pub mod CellLaws
 pub mod ChainLaws
 pub mod FilesLaws

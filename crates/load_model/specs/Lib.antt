@@ -1,5 +1,4 @@
 pub mod Corresponds
-pub mod Limits
 pub mod Linking
 pub mod Loading
 pub mod Mapped
