@@ -25,5 +25,6 @@ pub mod SectionLaws
 pub mod SegmentPages
 pub mod SetPointerLaws
 pub mod SetPointers
+pub mod SpanLaws
 pub mod Theorem
 pub mod WholePages
