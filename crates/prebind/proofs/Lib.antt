@@ -3,6 +3,7 @@ pub mod InsideLaws
 pub mod MetLaws
 pub mod NumberLaws
 pub mod OrderLaws
+pub mod OrderedWords
 pub mod PlaceLaws
 pub mod ResolveLaws
 pub mod SameLaws

@@ -1,5 +1,5 @@
 -- The words of an image: those that are bound, the rebases that aren't, and the references of the split-segment information that are no pointers; each with where it stands and where it leads.
-use Rattle.std.specs.Prelude.{◌<◌, ℕ, ◌+◌, Bool, not, nat_eq, List, [], ◌++◌, length, map, filter, Option, Some, None, slice_get, slice_index_or, unwrap_or}
+use Rattle.std.specs.Prelude.{◌<◌, ℕ, ◌+◌, Bool, not, nat_eq, nat_le, if◌then◌else◌, List, [], ◌∷◌, ◌++◌, length, map, filter, Option, Some, None, slice_get, slice_index_or, unwrap_or}
 use Rattle.std.specs.List.{list_any}
 use Rattle.std.specs.List.Sorted.{IsPermutation, IsNonDecreasingBy}
 use Rattle.macho_image.specs.Records.{Seg, Img}
@@ -95,3 +95,15 @@ pub record AreOrdered (all words : List PlacedWord) : Type 0 where
 pub record ArePlaced (all words : List PlacedWord) : Type 0 where
   pub moved : IsPermutation all words
   pub rises : (i : ℕ) (d : PlacedWord) → i + 1 < length words → (slice_index_or words i d).at.address < (slice_index_or words (i + 1) d).at.address
+
+-- the words in the order of their addresses
+abbrev pub put_word : PlacedWord → List PlacedWord → List PlacedWord
+put_word w [] = w ∷ []
+put_word w (v ∷ vs) = if nat_le w.at.address v.at.address then w ∷ (v ∷ vs) else v ∷ put_word w vs
+
+abbrev pub in_word_order : List PlacedWord → List PlacedWord
+in_word_order [] = []
+in_word_order (w ∷ ws) = put_word w (in_word_order ws)
+
+unfoldable pub ordered_pointers : ImageSet → ℕ → List PlacedWord
+ordered_pointers set k = in_word_order (pointers_of set k)
