@@ -1,6 +1,6 @@
 -- The first break of a set, phase by phase.
 use Rattle.std.proofs.Common.{◌≡◌, ◌≤◌, ◌<◌, ℕ, true, false, nat_lt, if◌then◌else◌, Option, Some, None, List, length, get_or, refl, sym, ap, ◌∙◌, subst, arith}
-use Rattle.std.specs.Prelude.{Result, Ok, Err, IsErrAnd, IfErr}
+use Rattle.std.specs.Prelude.{Result, Ok, Err, IsErrAnd, IfErr, slice_get}
 use Rattle.std.specs.List.{All}
 use Rattle.std.specs.Option.{option_or}
 use Rattle.std.proofs.lemmas.List.{length-map}
@@ -26,6 +26,8 @@ use Rattle.cache_build.proofs.ByteLaws.{segment_bytes}
 use Rattle.cache_build.proofs.FitsLaws.{AreSound}
 use Rattle.cache_build.proofs.HeadFacts.{IsReady, assembles}
 use Rattle.cache_build.proofs.PointerSets.{links}
+use Rattle.cache_build.proofs.PlainSets.{plain_sets}
+use Rattle.load_model.proofs.PlainLaws.{HasRebasesAlone}
 
 pub handed_set : {X : Type 0} (found : Option Break) (r : Result X SetFault) (fault : SetFault) → IsErrAnd r (λ g. g ≡ fault) → IsSetRefusal found fault → IfErr r (IsSetRefusal found)
 handed_set found (Ok x) fault is refused = tt
@@ -136,6 +138,7 @@ set_ready files images l frame few bytes led fits laid framed small =
       sound = set_sound files images led.passed;
       streams = led.passed.streams;
       lead = led.lead;
+      plain = subst (λ (is : List Img). (k : ℕ) (i : Img) → slice_get is k ≡ Some i → HasRebasesAlone i) (sym led.passed.are) (plain_sets files led.passed.shapes);
       none = fits;
       small = small_span (span_of (layout_of images)) (small ∙ (ap (λ (f : Frame). too_large_at f.span) framed ∙ ap (λ (m : Laid). too_large_at (span_of m)) laid));
       bytes = subst (λ (is : List Img). (k g : ℕ) (i : Img) (s : Seg) → IsSegment is k g i s → (n : ℕ) → get_or s.bytes n 0 < 256) (sym led.passed.are) (segment_bytes files bytes);

@@ -31,7 +31,7 @@ use Rattle.cache_layout.proofs.NumberedLaws.{numbered-get, length-numbered}
 use Rattle.cache_layout.proofs.RoomLaws.{paged-covers}
 use Rattle.slide_chain.specs.Info.{info_read}
 use Rattle.slide_chain.specs.Making.{info_of}
-use Rattle.load_model.specs.Memory.{wrap}
+use Rattle.macho_image.specs.Places.{wrap}
 use Rattle.load_model.specs.Linking.{IsPointer, places, ArePointers, linked_data}
 use Rattle.load_model.specs.Mapped.{three_mappings}
 use Rattle.load_model.proofs.ChainLaws.{length-info, info_is}

@@ -22,7 +22,7 @@ use Rattle.cache_layout.specs.declared.mapping.Mapping.TheVariants.{Text, Writab
 use Rattle.cache_layout.proofs.PlaceLaws.{are_in_turn, are_within}
 use Rattle.cache_layout.proofs.SoundLaws.{sound_linkedit, sound_protection, protection, mapped_protection}
 use Rattle.cache_layout.proofs.RoomLaws.{paged-covers}
-use Rattle.load_model.specs.Memory.{wrap, above}
+use Rattle.macho_image.specs.Places.{wrap, above}
 use Rattle.load_model.specs.Mapped.{flat, mapped, cached_image}
 use Rattle.load_model.proofs.LoadingLaws.{IsLow}
 use Rattle.load_model.proofs.MappedLaws.{flat_three, mapped_cell}

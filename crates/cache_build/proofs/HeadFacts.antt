@@ -1,5 +1,6 @@
 -- The head of a set of sound images with a layout: it can be written, its numbers fit, and it is as long as the layout says.
 use Rattle.std.proofs.Common.{◌≡◌, ◌≤◌, ◌<◌, ℕ, zero, suc, ◌+◌, ◌-◌, Bool, true, false, cond, Option, Some, None, List, [], ◌∷◌, take, drop, length, map, get_or, All, refl, sym, ap, ◌∙◌, subst, arith}
+use Rattle.std.specs.Prelude.{slice_get}
 use Rattle.std.proofs.lemmas.Bool.{eqb-true}
 use Rattle.std.proofs.lemmas.List.{get_or_default, length-take-le, length-drop}
 use Rattle.std.specs.List.{AllByRecursion}
@@ -21,6 +22,7 @@ use Rattle.cache_layout.proofs.PlaceLaws.{are_within}
 use Rattle.cache_layout.proofs.SoundLaws.{sound_linkedit}
 use Rattle.cache_layout.proofs.NumberedLaws.{numbered-get, length-numbered}
 use Rattle.load_model.specs.Mapped.{three_mappings}
+use Rattle.load_model.proofs.PlainLaws.{HasRebasesAlone}
 use Rattle.cache_build.specs.Places.{span_of}
 use Rattle.cache_build.specs.Breaks.{streams_break, in_each, pointer_break}
 use Rattle.cache_build.specs.Head.{entry_of, head_of}
@@ -34,6 +36,7 @@ pub record IsReady (is : List Img) : Type 0 where
   pub sound : AreSound is
   pub streams : streams_break is ≡ None
   pub lead : in_each pointer_break 0 is ≡ None
+  pub plain : (k : ℕ) (i : Img) → slice_get is k ≡ Some i → HasRebasesAlone i
   pub none : layout_break is ≡ None
   pub small : span_of (layout_of is) ≤ 0x20000000
   pub bytes : (k g : ℕ) (i : Img) (s : Seg) → IsSegment is k g i s → (n : ℕ) → get_or s.bytes n 0 < 256

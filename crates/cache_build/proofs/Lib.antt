@@ -9,6 +9,7 @@ pub mod CachedImages
 pub mod CachedSegments
 pub mod DataBytes
 pub mod DuplicateLaws
+pub mod ExportLaws
 pub mod FitsLaws
 pub mod HeadFacts
 pub mod HeadLaws
@@ -20,6 +21,8 @@ pub mod OwnWords
 pub mod PartLaws
 pub mod PlacedSets
 pub mod PlacesApart
+pub mod PlainFiles
+pub mod PlainSets
 pub mod PointerSets
 pub mod Protections
 pub mod ReadSets
@@ -31,6 +34,7 @@ pub mod SetPointerLaws
 pub mod SetPointers
 pub mod SoundSets
 pub mod StreamLaws
+pub mod TargetLaws
 pub mod Theorem
 pub mod Unbroken
 pub mod WalkLaws

@@ -16,13 +16,13 @@ use Rattle.dsc_base.specs.Refusals.{broken}
 use Rattle.macho_image.specs.declared.place.Location.{Location}
 use Rattle.macho_image.proofs.Unbroken.{or_none, broken_none}
 use Rattle.macho_image.specs.Places.{IsWord}
-use Rattle.macho_image.specs.Segments.{inside}
+use Rattle.macho_image.specs.Segments.{inside, value_of}
 use Rattle.macho_image.specs.declared.places.segment_index.Inside.{Inside}
 use Rattle.macho_image.proofs.SegmentLaws.{inside_some}
 use Rattle.rebase_ops.specs.Rebases.{rebase_break, AreRebases}
 use Rattle.rebase_ops.proofs.RebaseLaws.{accepted_rebases}
 use Rattle.load_model.specs.Limits.{set_too_large}
-use Rattle.load_model.specs.Pointers.{rebases_in, value_of}
+use Rattle.load_model.specs.Pointers.{rebases_in}
 use Rattle.cache_build.specs.Breaks.{in_each, image_streams_break, streams_from, streams_break, led_to, is_in_linkedit, pointers_break, pointer_break}
 use Rattle.cache_build.specs.Setting.{AreRead}
 use Rattle.cache_build.proofs.Unbroken.{neither}
@@ -58,7 +58,7 @@ set_word is none k j i w image got =
 -- the segment that contains the value of a pointer, which isn't `__LINKEDIT`
 pub record Leads (i : Img) (w : Location) : Type 0 where
   pub place : Inside
-  pub place_is : inside i.segments (value_of i w) ≡ Some place
+  pub place_is : inside i.segments (value_of i.segments w) ≡ Some place
   pub segment : Seg
   pub segment_is : slice_get i.segments place.segment ≡ Some segment
   pub owned : is_linkedit_segment segment ≡ false
@@ -78,7 +78,7 @@ leads_from : (i : Img) (w : Location) (o : Option Inside) → led_to i.segments 
 unfolding value_of
 leads_from i w None led some owned = absurd (cc)
 leads_from i w (Some p) led some owned =
-    let at = inside_some i.segments (value_of i w) p led in
+    let at = inside_some i.segments (value_of i.segments w) p led in
     record {
       place = p;
       place_is = led;

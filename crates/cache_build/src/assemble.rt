@@ -12,7 +12,7 @@ ghost use Rattle.cache_build.specs.Places.{frame_of};
 ghost use Rattle.cache_build.specs.Pointers.{pointers_of};
 ghost use Rattle.cache_build.specs.Cache.{headers_of, all_pages, cache_from, slide_bytes};
 ghost use Rattle.cache_build.specs.Fits.{AreSized, HasMoves, CanAssemble};
-ghost use Rattle.cache_build.specs.Setting.{AreRead, CanChain, CanLink};
+ghost use Rattle.cache_build.specs.Setting.{AreRead, AreLed, CanChain, CanLink};
 
 use crate::fault::of_image;
 use crate::frame::Frame;
@@ -68,6 +68,7 @@ fn link_data<R: Threads + Sync>(
     requires moves { HasMoves layout.now images.now }
     requires streams { map (λ r. r.items) streams.now ≡ map rebases_in images.now }
     requires read { AreRead images.now }
+    requires led { AreLed images.now }
     requires pages { length area.old % 4096 ≡ 0 }
     requires room { length area.old ≤ 0x2000_0000 }
     requires pointers { ArePointers (length area.old) (pointers_of layout.now images.now) }

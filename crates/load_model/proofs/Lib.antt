@@ -3,6 +3,7 @@ pub mod ChainLaws
 pub mod LoadingLaws
 pub mod MappedLaws
 pub mod NumberLaws
+pub mod PlainLaws
 pub mod PointerLaws
 pub mod RebasedLaws
 pub mod ShapeLaws

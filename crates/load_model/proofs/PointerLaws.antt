@@ -8,14 +8,14 @@ use Rattle.std.proofs.lemmas.List.Elements.{All-head, All-tail}
 use Rattle.std.proofs.lemmas.Nat.Bits.{and_high}
 use Rattle.dsc_base.specs.declared.edits.Edit.{Edit}
 use Rattle.dsc_base.specs.Numbers.{number_at, little_bytes}
-use Rattle.dsc_base.specs.Edits.{put_all, AllInside, AllFit, ApartFrom, AllApart, RisesFrom, Holds, IsAmong, change_all, settled}
+use Rattle.dsc_base.specs.Edits.{put_all, AllInside, AllFit, ApartFrom, AllApart, RisesFrom, Holds, IsAmong, settled}
 use Rattle.dsc_base.proofs.EditLaws.{length-put_all, Holds-put_all, get_or-put_all, get_or-put_all_apart, in_one_or_apart, put_all-covered, rising_apart, change_all-settled}
 use Rattle.slide_chain.specs.Chains.{slid_area}
 use Rattle.slide_chain.specs.Making.{linking, info_of, AreWords, AllBelow, AreOutside, raising}
 use Rattle.slide_chain.proofs.LinkLaws.{AreBytes, IsLinkable, linking-inside, linking-rises}
 use Rattle.slide_chain.proofs.MappedLaws.{slid-linked}
 use Rattle.load_model.specs.Linking.{IsPointer, places, ArePointers, linked_data}
-use Rattle.load_model.specs.Memory.{wrap}
+use Rattle.macho_image.specs.Places.{wrap}
 use Rattle.load_model.proofs.ChainLaws.{chains_fit}
 
 -- the data that pointers are set in: whole pages
@@ -78,7 +78,6 @@ slid-rise slide from [] words = tt
 slid-rise slide from (e ∷ es) words = (words.0, slid-rise slide (e.at + 8) es words.3)
 
 slid-fit : (slide : ℕ) (es : List Edit) → AllFit (map (slid_pointer slide) es)
-unfolding wrap
 slid-fit slide [] = tt
 slid-fit slide (e ∷ es) = (omega arith, slid-fit slide es)
 
@@ -128,7 +127,6 @@ set_outside b (e ∷ es) holds values =
 
 -- what raising the numbers that were set is
 raising-set : (slide : ℕ) (b : List ℕ) (es : List Edit) → Holds b es → All IsPointer es → map (settled b) (map (raising slide) (places es)) ≡ map (slid_pointer slide) es
-unfolding wrap
 raising-set slide b [] holds values = refl
 raising-set slide b (e ∷ es) holds values =
     let first : IsPointer e = All-head IsPointer e es values in

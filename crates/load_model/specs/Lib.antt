@@ -5,4 +5,3 @@ pub mod Loading
 pub mod Mapped
 pub mod Memory
 pub mod Pointers
-pub mod Words

@@ -46,6 +46,10 @@ set_in_image-requires-clause-read c =
     subst (λ (ws : List Location). AreRebases i ws) (sym found)
     (c.requires.read c.loop-number.number i (slice_get_read c.args.images.now (length c.args.images.now) c.loop-number.number i refl c.loop-number-test.true c.index-images-number.is))
 
+pub set_in_image-requires-clause-led : goal.set_in_image-requires-clause-led
+set_in_image-requires-clause-led c =
+    c.requires.led c.loop-number.number c.index-images-number.result (slice_get_read c.args.images.now (length c.args.images.now) c.loop-number.number c.index-images-number.result refl c.loop-number-test.true c.index-images-number.is)
+
 pub set_in_image-requires-clause-room : goal.set_in_image-requires-clause-room
 unfolding pointers_of
 set_in_image-requires-clause-room c =
