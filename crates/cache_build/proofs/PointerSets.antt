@@ -15,15 +15,14 @@ use Rattle.cache_layout.specs.Parts.{mapping_part}
 use Rattle.cache_layout.proofs.PlaceLaws.{place_of, move_at-own, range_in-is, are_in_turn}
 use Rattle.cache_layout.proofs.RoomLaws.{paged-covers, room_of-own}
 use Rattle.cache_layout.proofs.PartLaws.{length-mapping_part}
-use Rattle.load_model.specs.Linking.{ArePointers}
 use Rattle.load_model.specs.Pointers.{rebases_in}
 use Rattle.load_model.proofs.RebasedLaws.{rebase_words}
 use Rattle.split_info.specs.declared.reference.RefKind.TheVariants.{Pointer64}
 use Rattle.prebind.specs.Numbers.{number_to}
 use Rattle.cache_build.specs.Pointers.{cached_starts, cached_address, data_start, pointer_target, pointer_edit, segment_pointers, image_pointers, pointers_of}
 use Rattle.cache_build.specs.Cache.{headers_of, all_pages}
-use Rattle.cache_build.specs.Setting.{AreLed, CanLink}
-use Rattle.cache_build.proofs.HeadFacts.{IsReady}
+use Rattle.cache_build.specs.Setting.{AreLed, ArePointers, CanLink}
+use Rattle.cache_build.proofs.HeadFacts.{IsReady, assembles}
 use Rattle.cache_build.proofs.ReadSets.{Leads, read_sets, lead_sets}
 use Rattle.cache_build.proofs.TargetLaws.{target_is}
 use Rattle.cache_build.proofs.RunLaws.{AreBetween, IsPlaced, between_all, between_pointers, placed_between}
@@ -89,7 +88,7 @@ pointers_are is ready =
     between_all (λ (k : ℕ) (i : Img). image_pointers (layout_of is) k i) (λ (i : Img). segments_room Writable i.segments) 0 is
     (λ k from i lt at behind. image_between is ready k from i (slice_get_read is (length is) k i refl lt at) (omega (arith, behind))) in
     let size : 0 + images_room Writable is ≡ (layout_of is).writable.len = omega (arith, data_size is) in
-    between_pointers (layout_of is).writable.len (pointers_of (layout_of is) is) (subst (λ (n : ℕ). AreBetween 0 n (pointers_of (layout_of is) is)) size all)
+    between_pointers (layout_of is).writable.len (pointers_of (layout_of is) is) (assembles is ready).pages (subst (λ (n : ℕ). AreBetween 0 n (pointers_of (layout_of is) is)) size all)
 
 -- the data are as long as the layout says
 pub data_long : (is : List Img) → IsReady is → length (mapping_part Writable (all_pages (headers_of (layout_of is) is) is) is) ≡ (layout_of is).writable.len

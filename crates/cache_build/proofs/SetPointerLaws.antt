@@ -23,9 +23,8 @@ use Rattle.macho_image.specs.declared.places.segment_index.Entry.{Entry}
 use Rattle.macho_image.specs.declared.places.segment_index.Inside.{Inside}
 use Rattle.cache_layout.specs.Layouts.{Laid}
 use Rattle.cache_layout.proofs.NumberedLaws.{take-step}
-use Rattle.load_model.specs.Linking.{places}
 use Rattle.load_model.specs.Pointers.{rebases_in}
-use Rattle.cache_build.specs.Pointers.{cached_starts, cached_address, move_or, pointer_target, pointer_edit, moved_number, pointers_inside, segment_pointers, image_pointers}
+use Rattle.cache_build.specs.Pointers.{cached_starts, cached_address, move_or, pointer_target, pointer_edit, moved_number, pointers_inside, segment_pointers, image_pointers, places}
 use Rattle.cache_build.specs.Setting.{LeadsToPlace, AreLedFrom, edit_in, edits_of, all_edits, Belong}
 use Rattle.cache_build.proofs.TargetLaws.{number_is, moved_place}
 

@@ -14,6 +14,7 @@ use Rattle.split_info.specs.declared.reference.RefKind.TheVariants.{Pointer64}
 use Rattle.prebind.specs.declared.resolved.WordTarget.{WordTarget}
 use Rattle.prebind.specs.Targets.{rebase_target}
 use Rattle.prebind.specs.Numbers.{Starts, number_to}
+use Rattle.slide_chain.specs.Linked.{linked_data}
 use Rattle.load_model.specs.Pointers.{rebases_in}
 
 -- where each segment of a set starts in the cache
@@ -62,3 +63,11 @@ image_pointers l k image = flat_map (λ p. segment_pointers l k image p.0 p.1) (
 -- all pointers, by image, segment and address, which is the order of the data
 unfoldable pub pointers_of : Laid → List Img → List Edit
 pointers_of l images = flat_map (λ p. image_pointers l p.0 p.1) (enumerate_from 0 images)
+
+-- the places of pointers, each of which is a word of a chain
+abbrev pub places : List Edit → List ℕ
+places es = map (λ (e : Edit). e.at) es
+
+-- data with pointers set and linked, where the distance to the next one has 16 bits
+abbrev pub with_pointers : List Edit → List ℕ → List ℕ
+with_pointers es bytes = linked_data 16 (places es) es bytes

@@ -10,13 +10,13 @@ use Rattle.macho_image.specs.Index.{found_in}
 use Rattle.macho_image.specs.declared.places.segment_index.Entry.{Entry}
 use Rattle.rebase_ops.specs.Rebases.{AreRebases}
 use Rattle.slide_chain.specs.Making.{AreWords, AllBelow, AreOutside}
+use Rattle.slide_chain.specs.Linked.{CanLink as CanLinkData}
 use Rattle.cache_layout.specs.Layouts.{Laid}
 use Rattle.cache_layout.specs.declared.mapping.Mapping.TheVariants.{Writable}
 use Rattle.cache_layout.specs.Parts.{mapping_part}
 use Rattle.load_model.specs.Pointers.{rebases_in}
-use Rattle.load_model.specs.Linking.{ArePointers}
 use Rattle.prebind.specs.declared.resolved.WordTarget.TheVariants.{Place}
-use Rattle.cache_build.specs.Pointers.{word_edit, move_or, moved_number, pointers_inside, pointer_target, pointers_of}
+use Rattle.cache_build.specs.Pointers.{word_edit, move_or, moved_number, pointers_inside, pointer_target, pointers_of, places}
 use Rattle.cache_build.specs.Cache.{all_pages, headers_of}
 
 -- a pointer of a segment that begins at a place of the data, by an index of the segments of its image and by their moves
@@ -59,6 +59,10 @@ pub record CanChain (area ws : List ℕ) : Type 0 where
   pub words : AreWords 0 ws
   pub below : AllBelow (length area) ws
   pub outside : AreOutside ((2 ^ 16 - 1) * 2 ^ 48) area ws
+
+-- pointers that can be set in data of so many bytes and linked, all of them
+abbrev pub ArePointers : ℕ → List Edit → Type 0
+ArePointers size es = CanLinkData 16 size (places es) es
 
 -- the data have the layout's size, and the pointers of the set stand in them and lead to places
 pub record CanLink (l : Laid) (is : List Img) : Type 0 where

@@ -3,9 +3,8 @@ ghost use Rattle.std.specs.Prelude.{◌≡◌, ◌≤◌, ◌<◌, ◌++◌, [],
 ghost use Rattle.std.specs.List.Sorted.{IsNonDecreasingBy};
 ghost use Rattle.dsc_base.specs.Edits.{AllInside, put_all};
 ghost use Rattle.macho_image.specs.Segments.{contains};
-ghost use Rattle.load_model.specs.Linking.{places};
 ghost use Rattle.load_model.specs.Pointers.{rebases_in};
-ghost use Rattle.cache_build.specs.Pointers.{moved_number, image_pointers, pointers_of};
+ghost use Rattle.cache_build.specs.Pointers.{moved_number, image_pointers, pointers_of, places};
 ghost use Rattle.rebase_ops.specs.Rebases.{AreRebases};
 ghost use Rattle.cache_build.specs.Setting.{edit_in, all_edits, Belong, AreRead, AreLedFrom, AreLed};
 ghost use Rattle.cache_build.specs.Fits.{HasMoves};

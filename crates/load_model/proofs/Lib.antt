@@ -1,9 +1,7 @@
 pub mod CellLaws
-pub mod ChainLaws
 pub mod LoadingLaws
 pub mod MappedLaws
 pub mod NumberLaws
 pub mod PlainLaws
-pub mod PointerLaws
 pub mod RebasedLaws
 pub mod ShapeLaws

@@ -1,6 +1,5 @@
 pub mod Corresponds
 pub mod Limits
-pub mod Linking
 pub mod Loading
 pub mod Mapped
 pub mod Memory

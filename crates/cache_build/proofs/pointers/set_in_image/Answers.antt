@@ -3,7 +3,7 @@ use Rattle.dsc_base.specs.declared.edits.Edit.{Edit}
 use Rattle.dsc_base.specs.declared.fault.Span.{Span}
 use Rattle.dsc_base.specs.Edits.{put_all, AllInside}
 use Rattle.macho_image.specs.Records.{Seg, Img}
-use Rattle.load_model.specs.Linking.{places}
+use Rattle.cache_build.specs.Pointers.{places}
 use Rattle.cache_build.specs.Setting.{Belong}
 use Rattle.cache_build.proofs.BelongLaws.{rebases_rise, rebases_belong}
 use Rattle.cache_build.proofs.SetPointerLaws.{image_edits}

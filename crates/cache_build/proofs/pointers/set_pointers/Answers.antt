@@ -5,8 +5,7 @@ use Rattle.dsc_base.specs.Edits.{put_all, AllInside}
 use Rattle.macho_image.specs.Records.{Img}
 use Rattle.macho_image.specs.declared.place.Location.{Location}
 use Rattle.rebase_ops.specs.Rebases.{AreRebases}
-use Rattle.load_model.specs.Linking.{places}
-use Rattle.cache_build.specs.Pointers.{image_pointers, pointers_of}
+use Rattle.cache_build.specs.Pointers.{image_pointers, pointers_of, places}
 use Rattle.cache_build.proofs.SetPointerLaws.{put_none, edits_inside, all_set_more, all_placed_more}
 use Rattle.cache_build.proofs.StreamLaws.{stream_at}
 use Rattle.cache_build.proofs.pointers.set_pointers.Goals as goal
