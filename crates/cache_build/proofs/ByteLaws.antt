@@ -7,8 +7,7 @@ use Rattle.macho_image.specs.Records.{Seg, Img, SegmentLoad}
 use Rattle.macho_image.specs.Macho.{header_in, image_of, image_from, segment_of, segment_loads, loads_of}
 use Rattle.cache_layout.specs.Apart.{IsSegment}
 use Rattle.cache_layout.proofs.NumberedLaws.{map-push, take-step}
-use Rattle.cache_build.specs.Breaks.{images_of}
-use Rattle.cache_build.specs.Built.{contents}
+use Rattle.load_model.specs.Phases.{contents, images_of}
 
 -- what lies behind a list's end counts as 0
 read_byte : (bytes : List ℕ) → All (λ b. b < 256) bytes → (n : ℕ) → get_or bytes n 0 < 256

@@ -1,6 +1,5 @@
 -- The head of a set of sound images with a layout: it can be written, its numbers fit, and it is as long as the layout says.
 use Rattle.std.proofs.Common.{◌≡◌, ◌≤◌, ◌<◌, ℕ, zero, suc, ◌+◌, ◌-◌, Bool, true, false, cond, Option, Some, None, List, [], ◌∷◌, take, drop, length, map, get_or, All, refl, sym, ap, ◌∙◌, subst, arith}
-use Rattle.std.specs.Prelude.{slice_get}
 use Rattle.std.proofs.lemmas.Bool.{eqb-true}
 use Rattle.std.proofs.lemmas.List.{get_or_default, length-take-le, length-drop}
 use Rattle.std.specs.List.{AllByRecursion}
@@ -21,12 +20,12 @@ use Rattle.cache_layout.specs.Apart.{IsSegment}
 use Rattle.cache_layout.proofs.PlaceLaws.{are_within}
 use Rattle.cache_layout.proofs.SoundLaws.{sound_linkedit}
 use Rattle.cache_layout.proofs.NumberedLaws.{numbered-get, length-numbered}
+use Rattle.prebind.proofs.SetLaws.{HaveStreams}
 use Rattle.load_model.specs.Mapped.{three_mappings}
-use Rattle.load_model.proofs.PlainLaws.{HasRebasesAlone}
 use Rattle.cache_build.specs.Places.{span_of}
-use Rattle.cache_build.specs.Breaks.{streams_break, in_each, pointer_break}
 use Rattle.cache_build.specs.Head.{entry_of, head_of}
 use Rattle.cache_build.specs.Fits.{Fits, CanAssemble}
+use Rattle.cache_build.proofs.ReadSets.{AreLed}
 use Rattle.cache_build.proofs.HeadLaws.{no_image, writable_head}
 use Rattle.cache_build.proofs.FitsLaws.{AreSound, can_assemble, two_segments, no_segment}
 
@@ -34,9 +33,8 @@ use Rattle.cache_build.proofs.FitsLaws.{AreSound, can_assemble, two_segments, no
 pub record IsReady (is : List Img) : Type 0 where
   pub few : length is ≤ 4096
   pub sound : AreSound is
-  pub streams : streams_break is ≡ None
-  pub lead : in_each pointer_break 0 is ≡ None
-  pub plain : (k : ℕ) (i : Img) → slice_get is k ≡ Some i → HasRebasesAlone i
+  pub streams : HaveStreams is
+  pub lead : AreLed is
   pub none : layout_break is ≡ None
   pub small : span_of (layout_of is) ≤ 0x20000000
   pub bytes : (k g : ℕ) (i : Img) (s : Seg) → IsSegment is k g i s → (n : ℕ) → get_or s.bytes n 0 < 256

@@ -24,11 +24,10 @@ use Rattle.prebind.specs.Sets.{image_set}
 use Rattle.load_model.specs.Memory.{Cells, HasNumber}
 use Rattle.load_model.specs.Loading.{loaded_starts, segment_cells, rebased}
 use Rattle.load_model.specs.Mapped.{mapped, cached_image}
-use Rattle.load_model.specs.Pointers.{rebases_in}
 use Rattle.load_model.specs.Corresponds.{Leads, mapped_starts, loaded_side, mapped_side}
 use Rattle.load_model.proofs.NumberLaws.{address_on}
 use Rattle.load_model.proofs.RebasedLaws.{rebased_word}
-use Rattle.cache_build.specs.Pointers.{cached_starts, cached_address, pointer_target, pointer_edit}
+use Rattle.cache_build.specs.Pointers.{rebases_in, cached_starts, cached_address, pointer_target, pointer_edit}
 use Rattle.cache_build.specs.Places.{span_of}
 use Rattle.cache_build.specs.Cache.{cache_of}
 use Rattle.cache_build.proofs.HeadFacts.{IsReady, assembles}
@@ -76,7 +75,7 @@ loaded_leads is ready k j i lt at slides address header w got place =
       number = wrap (value_of i.segments w + slides k);
       fits = wrap_fits (value_of i.segments w + slides k);
       there = subst (λ (x : ℕ). HasNumber 8 (loaded_side (image_set is) slides k).cells (wrap (x + slides k)) (wrap (value_of i.segments w + slides k))) (sym place)
-          (subst (λ (cells : Cells). HasNumber 8 cells (wrap (w.address + slides k)) (wrap (value_of i.segments w + slides k))) (sym (loaded_is is slides k i image (ready.plain k i image))) there);
+          (subst (λ (cells : Cells). HasNumber 8 cells (wrap (w.address + slides k)) (wrap (value_of i.segments w + slides k))) (sym (loaded_is is slides k i image (ready.lead.plain k i image))) there);
       leads = address_leads (loaded_starts (image_set is) slides) (wrap (address + slides k)) (wrap (header + slides k)) (wrap (value + slides k)) k lead.place.segment lead.place.distance (pointer_target k i w) (target_is k i w lead)
           (raised value lead.segment.vmaddr lead.place.distance (slides k) (value_is i w lead)
           ∙ ap (λ (n : ℕ). wrap (n + lead.place.distance)) (sym start));

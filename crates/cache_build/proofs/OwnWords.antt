@@ -1,9 +1,9 @@
 -- The words of an image that has rebases alone: which they are, which bytes of its sections they cover, and where its image stands as it is loaded.
 use Rattle.std.proofs.Common.{◌≡◌, ◌≤◌, ◌<◌, ℕ, zero, suc, ◌+◌, ◌-◌, Option, Some, None, List, [], ◌∷◌, ◌++◌, map, get_or, refl, sym, ap, ap₂, ◌∙◌, subst, arith, inl, inr}
-use Rattle.std.specs.Prelude.{filter, nat_eq, option_map, slice_get}
+use Rattle.std.specs.Prelude.{filter, nat_eq, slice_get}
 use Rattle.std.proofs.lemmas.Bool.{cases_lt, ne_eqb, cond-false}
 use Rattle.std.proofs.lemmas.List.{append-nil}
-use Rattle.std.proofs.lemmas.Option.{same_Some, slice_get_within, get_or_from_slice_get, slice_get-map}
+use Rattle.std.proofs.lemmas.Option.{same_Some, slice_get_within, get_or_from_slice_get}
 use Rattle.macho_image.specs.Records.{Img}
 use Rattle.macho_image.specs.Breaks.{IsSound}
 use Rattle.macho_image.specs.Order.{addresses_of}
@@ -21,12 +21,12 @@ use Rattle.split_info.specs.declared.reference.Reference.{Reference}
 use Rattle.split_info.specs.declared.reference.RefKind.TheVariants.{Pointer64}
 use Rattle.prebind.specs.Sets.{StreamLists, ImageSet, lists_of, image_set}
 use Rattle.prebind.specs.Targets.{pointer_at}
-use Rattle.prebind.specs.Words.{Word, placed_bind, is_bound, is_free, streams_in, streams_at, bound_words, rebased_word, all_pointers, pointers_of, pointer_word, reference_word, is_no_pointer, sections_in, words_of}
+use Rattle.prebind.specs.Words.{Word, placed_bind, is_bound, is_free, bound_words, rebased_word, all_pointers, pointers_of, pointer_word, reference_word, is_no_pointer, sections_in, words_of}
 use Rattle.load_model.specs.Loading.{segment_cells, rebased, bound_to, loaded, loaded_starts}
-use Rattle.load_model.specs.Pointers.{rebases_in}
 use Rattle.load_model.specs.Corresponds.{Covers, InWord, IsWordOf}
 use Rattle.load_model.proofs.PlainLaws.{HasRebasesAlone}
-use Rattle.cache_build.specs.Pointers.{pointer_target}
+use Rattle.cache_build.specs.Pointers.{rebases_in, pointer_target}
+use Rattle.cache_build.proofs.ReadSets.{own_streams}
 use Rattle.cache_build.proofs.SectionLaws.{IsInside, section_inside}
 
 -- ---- which they are
@@ -34,10 +34,6 @@ use Rattle.cache_build.proofs.SectionLaws.{IsInside, section_inside}
 -- a rebase of image k as a word
 abbrev pub own_word : ℕ → Img → Location → Word
 own_word k i w = record { at = w; kind = Pointer64; target = pointer_target k i w }
-
-pub streams_own : (is : List Img) (k : ℕ) (i : Img) → slice_get is k ≡ Some i → streams_at (image_set is) k ≡ lists_of i
-unfolding image_set
-streams_own is k i image = ap streams_in (slice_get-map lists_of is k ∙ ap (λ (o : Option Img). option_map lists_of o) image)
 
 none_bound : (ws : List Location) → filter (is_free (is_bound [])) ws ≡ ws
 none_bound [] = refl
@@ -56,7 +52,7 @@ pub words_are : (is : List Img) (k : ℕ) (i : Img) → slice_get is k ≡ Some 
 unfolding words_of pointers_of image_set lists_of
 words_are is k i image plain =
     let with = λ (bs : List BoundWord) (rs : List Reference). words_by (image_set is) k (Some i) (record { rebases = rebases_in i; binds = bs; references = rs; exports = i.streams.exports }) in
-    ap₂ (λ (o : Option Img) (s : StreamLists). words_by (image_set is) k o s) image (streams_own is k i image)
+    ap₂ (λ (o : Option Img) (s : StreamLists). words_by (image_set is) k o s) image (own_streams is k i image)
     ∙ (ap₂ with plain.binds plain.references
     ∙ (append-nil (map pointer_word (map (rebased_word k i.segments (pointer_at [])) (filter (is_free (is_bound [])) (rebases_in i))))
     ∙ (ap (λ (ws : List Location). map pointer_word (map (rebased_word k i.segments (pointer_at [])) ws)) (none_bound (rebases_in i))
@@ -70,7 +66,7 @@ pub loaded_is : (is : List Img) (slides : ℕ → ℕ) (k : ℕ) (i : Img) → s
 unfolding loaded bound_to bound_words image_set lists_of
 loaded_is is slides k i image plain =
     let set : ImageSet = image_set is in
-    ap₂ (λ (o : Option Img) (s : StreamLists). bound_to (loaded_starts set slides) (slides k) (map (placed_bind set k) s.binds) (rebased (slides k) (addresses_of s.rebases) (segment_cells (slides k) (segments_in o)))) image (streams_own is k i image)
+    ap₂ (λ (o : Option Img) (s : StreamLists). bound_to (loaded_starts set slides) (slides k) (map (placed_bind set k) s.binds) (rebased (slides k) (addresses_of s.rebases) (segment_cells (slides k) (segments_in o)))) image (own_streams is k i image)
     ∙ ap (λ (bs : List BoundWord). bound_to (loaded_starts set slides) (slides k) (map (placed_bind set k) bs) (rebased (slides k) (addresses_of (rebases_in i)) (segment_cells (slides k) i.segments))) plain.binds
 
 -- ---- lists of words

@@ -15,13 +15,12 @@ use Rattle.cache_layout.specs.Parts.{mapping_part}
 use Rattle.cache_layout.proofs.PlaceLaws.{place_of, move_at-own, range_in-is, are_in_turn}
 use Rattle.cache_layout.proofs.RoomLaws.{paged-covers, room_of-own}
 use Rattle.cache_layout.proofs.PartLaws.{length-mapping_part}
-use Rattle.load_model.specs.Pointers.{rebases_in}
 use Rattle.load_model.proofs.RebasedLaws.{rebase_words}
 use Rattle.split_info.specs.declared.reference.RefKind.TheVariants.{Pointer64}
 use Rattle.prebind.specs.Numbers.{number_to}
-use Rattle.cache_build.specs.Pointers.{cached_starts, cached_address, data_start, pointer_target, pointer_edit, segment_pointers, image_pointers, pointers_of}
+use Rattle.cache_build.specs.Pointers.{rebases_in, cached_starts, cached_address, data_start, pointer_target, pointer_edit, segment_pointers, image_pointers, pointers_of}
 use Rattle.cache_build.specs.Cache.{headers_of, all_pages}
-use Rattle.cache_build.specs.Setting.{AreLed, ArePointers, CanLink}
+use Rattle.cache_build.specs.Setting.{AllLeadToPlaces, ArePointers, CanLink}
 use Rattle.cache_build.proofs.HeadFacts.{IsReady, assembles}
 use Rattle.cache_build.proofs.ReadSets.{Leads, read_sets, lead_sets}
 use Rattle.cache_build.proofs.TargetLaws.{target_is}
@@ -95,7 +94,7 @@ pub data_long : (is : List Img) → IsReady is → length (mapping_part Writable
 data_long is ready = length-mapping_part Writable (all_pages (headers_of (layout_of is) is) is) is (pages_whole is ready) ∙ sym (data_size is)
 
 -- each leads to a place
-led_sets : (is : List Img) → IsReady is → AreLed is
+led_sets : (is : List Img) → IsReady is → AllLeadToPlaces is
 led_sets is ready k i image j w got =
     let leads : Leads i w = lead_sets is ready.lead k j i w image got in
     record { segment = leads.place.segment; distance = leads.place.distance; is = target_is k i w leads }

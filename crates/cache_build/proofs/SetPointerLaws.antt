@@ -23,9 +23,8 @@ use Rattle.macho_image.specs.declared.places.segment_index.Entry.{Entry}
 use Rattle.macho_image.specs.declared.places.segment_index.Inside.{Inside}
 use Rattle.cache_layout.specs.Layouts.{Laid}
 use Rattle.cache_layout.proofs.NumberedLaws.{take-step}
-use Rattle.load_model.specs.Pointers.{rebases_in}
-use Rattle.cache_build.specs.Pointers.{cached_starts, cached_address, move_or, pointer_target, pointer_edit, moved_number, pointers_inside, segment_pointers, image_pointers, places}
-use Rattle.cache_build.specs.Setting.{LeadsToPlace, AreLedFrom, edit_in, edits_of, all_edits, Belong}
+use Rattle.cache_build.specs.Pointers.{rebases_in, cached_starts, cached_address, move_or, pointer_target, pointer_edit, moved_number, pointers_inside, segment_pointers, image_pointers, places}
+use Rattle.cache_build.specs.Setting.{LeadsToPlace, LeadToPlaces, edit_in, edits_of, all_edits, Belong}
 use Rattle.cache_build.proofs.TargetLaws.{number_is, moved_place}
 
 -- ---- the pointers that a segment contains
@@ -230,7 +229,7 @@ own_same f h g (w ∷ ws) same = here (nat_eq w.segment g) refl (own_same f h g 
     here true is later = ap₂ (λ (e : Edit) (l : List Edit). e ∷ l) (same 0 w refl (eqb-true w.segment g is)) later
     here false is later = later
 
-segment_same : (index : List Entry) (l : Laid) (k : ℕ) (image : Img) (g : ℕ) (s : Seg) → Indexes image.segments index → AreLedFrom k image → g < length image.segments → s ≡ get_or image.segments g s
+segment_same : (index : List Entry) (l : Laid) (k : ℕ) (image : Img) (g : ℕ) (s : Seg) → Indexes image.segments index → LeadToPlaces k image → g < length image.segments → s ≡ get_or image.segments g s
     → edits_of index (get_or l.moves k []) l.writable.at (rebases_in image) g s ≡ segment_pointers l k image g s
 segment_same index l k image g s indexes led lt at =
     own_same (edit_in index (get_or l.moves k []) ((get_or (get_or l.moves k []) g (record { address = 0; file = 0 })).file - l.writable.at) s) (pointer_edit l k image g s) g (rebases_in image)
@@ -248,7 +247,7 @@ by_same {X} f h n (x ∷ xs) same =
     one_on : (k : ℕ) (y : X) → f (n + suc k) y ≡ h (n + suc k) y → f (n + 1 + k) y ≡ h (n + 1 + k) y
     one_on k y is = let on : n + 1 + k ≡ n + suc k = omega arith in ap (λ (m : ℕ). f m y) on ∙ (is ∙ sym (ap (λ (m : ℕ). h m y) on))
 
-pub image_same : (index : List Entry) (l : Laid) (k : ℕ) (image : Img) → Indexes image.segments index → AreLedFrom k image → all_edits index (get_or l.moves k []) l.writable.at (rebases_in image) image.segments ≡ image_pointers l k image
+pub image_same : (index : List Entry) (l : Laid) (k : ℕ) (image : Img) → Indexes image.segments index → LeadToPlaces k image → all_edits index (get_or l.moves k []) l.writable.at (rebases_in image) image.segments ≡ image_pointers l k image
 image_same index l k image indexes led =
     by_same (λ (g : ℕ) (s : Seg). edits_of index (get_or l.moves k []) l.writable.at (rebases_in image) g s) (λ (g : ℕ) (s : Seg). segment_pointers l k image g s) 0 image.segments
     (λ g s lt at. subst (λ (n : ℕ). edits_of index (get_or l.moves k []) l.writable.at (rebases_in image) n s ≡ segment_pointers l k image n s) (zero_on g) (segment_same index l k image g s indexes led lt at))
@@ -276,7 +275,7 @@ segment_edits index moves data_at ws ss n s start own belong lt at begins is =
     ∙ ap (λ (l : List Location). map (edit_in index moves ((move_or moves n).file - data_at) s) l) (is ∙ sym (own_inside ws ss n s belong lt at))
 
 -- those of an image, by what its parts are
-pub image_edits : (index : List Entry) (l : Laid) (k at : ℕ) (image : Img) (moves : List Moved) (ws : List Location) (ss : List Seg) → Indexes image.segments index → AreLedFrom k image → moves ≡ get_or l.moves k [] → at ≡ l.writable.at → ws ≡ rebases_in image → ss ≡ image.segments
+pub image_edits : (index : List Entry) (l : Laid) (k at : ℕ) (image : Img) (moves : List Moved) (ws : List Location) (ss : List Seg) → Indexes image.segments index → LeadToPlaces k image → moves ≡ get_or l.moves k [] → at ≡ l.writable.at → ws ≡ rebases_in image → ss ≡ image.segments
     → all_edits index moves at ws ss ≡ image_pointers l k image
 image_edits index l k at image moves ws ss indexes led moved begins found own =
     ap₂ (λ (m : List Moved) (a : ℕ). all_edits index m a ws ss) moved begins

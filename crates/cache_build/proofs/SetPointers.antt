@@ -23,8 +23,7 @@ use Rattle.cache_layout.proofs.SpaceLaws.{sound_space}
 use Rattle.macho_image.specs.Segments.{value_of}
 use Rattle.split_info.specs.declared.reference.RefKind.TheVariants.{Pointer64}
 use Rattle.prebind.specs.Numbers.{number_to}
-use Rattle.load_model.specs.Pointers.{rebases_in}
-use Rattle.cache_build.specs.Pointers.{cached_starts, pointer_target, pointer_edit, segment_pointers, image_pointers, pointers_of}
+use Rattle.cache_build.specs.Pointers.{rebases_in, cached_starts, pointer_target, pointer_edit, segment_pointers, image_pointers, pointers_of}
 use Rattle.cache_build.proofs.HeadFacts.{IsReady}
 use Rattle.cache_build.proofs.ReadSets.{set_word, Leads, lead_sets}
 use Rattle.cache_build.proofs.TargetLaws.{target_is, number_is}

@@ -29,20 +29,22 @@ use Rattle.prebind.specs.Words.{Word, words_of}
 use Rattle.load_model.specs.Memory.{Cells}
 use Rattle.load_model.specs.Loading.{in_memory, segment_cells, rebased}
 use Rattle.load_model.specs.Mapped.{mapped, cached_image}
-use Rattle.load_model.specs.Pointers.{rebases_in}
+use Rattle.cache_build.specs.Pointers.{rebases_in}
 use Rattle.load_model.specs.Corresponds.{shape_of, loaded_side, mapped_side, InWord, IsWordOf, WordCorresponds, ImageCorresponds, Corresponds}
 use Rattle.load_model.proofs.PlainLaws.{HasRebasesAlone}
 use Rattle.load_model.proofs.LoadingLaws.{IsLow, low_at}
 use Rattle.load_model.proofs.RebasedLaws.{rebased_other}
 use Rattle.cache_build.specs.Places.{span_of}
-use Rattle.cache_build.specs.Breaks.{shape_break, in_each, streams_break, duplicate_break, pointer_break, linkedit_break, images_of, images_break, set_break}
+use Rattle.load_model.specs.Phases.{contents, images_of, shape_break, files_break}
+use Rattle.load_model.proofs.AcceptedFiles.{accepted_files}
+use Rattle.load_model.proofs.SoundSets.{unbroken_shape, each_none}
+use Rattle.dsc_base.specs.Refusals.{in_each}
+use Rattle.cache_build.specs.Breaks.{linkedit_break, set_break}
 use Rattle.cache_build.specs.Cache.{header_of, pages_of, cache_of}
-use Rattle.cache_build.specs.Built.{contents, built}
+use Rattle.cache_build.specs.Built.{built}
 use Rattle.cache_build.specs.Always.{CorrespondsAlways}
 use Rattle.cache_build.specs.Fits.{CanAssemble}
-use Rattle.cache_build.proofs.SoundSets.{unbroken_shape, each_none, sound_images}
-use Rattle.cache_build.proofs.BuildLaws.{small_span}
-use Rattle.cache_build.proofs.ByteLaws.{segment_bytes}
+use Rattle.cache_build.proofs.BuildLaws.{ready_set}
 use Rattle.cache_build.proofs.HeadFacts.{IsReady, assembles}
 use Rattle.cache_build.proofs.SectionLaws.{IsLoadedByte, loaded_section_byte, sound_apart, IsInside, section_inside}
 use Rattle.cache_build.proofs.MovedLaws.{IsMovedSection, moved_shape, moved_section, moved_section_at}
@@ -56,7 +58,6 @@ use Rattle.cache_build.proofs.OwnWords.{own_word, words_are, loaded_is, in_word,
 use Rattle.cache_build.proofs.PlacesApart.{free_place}
 use Rattle.cache_build.proofs.LedPointers.{loaded_leads, mapped_leads}
 use Rattle.cache_build.proofs.ExportLaws.{moved_trie, same_exports}
-use Rattle.cache_build.proofs.PlainSets.{plain_sets}
 use Rattle.cache_build.proofs.ReadSets.{read_sets}
 
 -- ---- the bytes
@@ -183,7 +184,7 @@ image_corresponds : (is : List Img) → IsReady is → (k : ℕ) (i : Img) → k
 image_corresponds is ready k i lt at slides slide found =
     let image : Img = moved_image i (moves_in is k) (spots_in is) (slid_of is 0) in
     let member : slice_get is k ≡ Some i = slice_get_read is (length is) k i refl lt at in
-    let plain : HasRebasesAlone i = ready.plain k i member in
+    let plain : HasRebasesAlone i = ready.lead.plain k i member in
     let words : words_of (image_set is) k ≡ map (own_word k i) (rebases_in i) = words_are is k i member plain in
     record {
       shape = shape_same is ready k i lt at;
@@ -219,44 +220,28 @@ neither (Some x) b some = absurd (cc)
 
 -- what a set that breaks no rule has, by phases
 record BreaksNone (files : List (List ℕ)) : Type 0 where
-  shapes : in_each shape_break 0 files ≡ None
-  streams : streams_break (images_of files) ≡ None
-  lead : in_each pointer_break 0 (images_of files) ≡ None
+  read : files_break files ≡ None
   layout : layout_break (images_of files) ≡ None
   linkedit : linkedit_break (images_of files) ≡ None
 
 set_parts : (files : List (List ℕ)) → set_break files ≡ None → BreaksNone files
-unfolding set_break images_break
+unfolding set_break
 set_parts files none =
     let is : List Img = images_of files in
-    let one = neither (in_each shape_break 0 files) (images_break (images_of files)) none in
-    let two = neither (streams_break is) (option_or (duplicate_break is) (option_or (in_each pointer_break 0 is) (option_or (layout_break is) (linkedit_break is)))) one.1 in
-    let three = neither (duplicate_break is) (option_or (in_each pointer_break 0 is) (option_or (layout_break is) (linkedit_break is))) two.1 in
-    let four = neither (in_each pointer_break 0 is) (option_or (layout_break is) (linkedit_break is)) three.1 in
-    let five = neither (layout_break is) (linkedit_break is) four.1 in
-    record { shapes = one.0; streams = two.0; lead = four.0; layout = five.0; linkedit = five.1 }
-
-span_fits : (is : List Img) → linkedit_break is ≡ None → span_of (layout_of is) ≤ 0x20000000
-unfolding linkedit_break
-span_fits is none = small_span (span_of (layout_of is)) (sym none)
+    let one = neither (files_break files) (option_or (layout_break is) (option_or (linkedit_break is) None)) none in
+    let two = neither (layout_break is) (option_or (linkedit_break is) None) one.1 in
+    let three = neither (linkedit_break is) None two.1 in
+    record { read = one.0; layout = two.0; linkedit = three.0 }
 
 -- files are bytes
 abbrev pub AreFiles : List (List ℕ) → Type 0
 AreFiles files = All (λ (f : List ℕ). All (λ (b : ℕ). b < 256) f) files
 
-ready_set : (files : List (List ℕ)) → length files ≤ 4096 → AreFiles files → set_break files ≡ None → IsReady (images_of files)
-ready_set files few bytes none =
+ready_files : (files : List (List ℕ)) → length files ≤ 4096 → AreFiles files → set_break files ≡ None → IsReady (images_of files)
+unfolding linkedit_break
+ready_files files few bytes none =
     let parts : BreaksNone files = set_parts files none in
-    record {
-      few = omega (arith, few, length-map files (λ (f : List ℕ). image_of f 0));
-      sound = sound_images 0 files parts.shapes;
-      streams = parts.streams;
-      lead = parts.lead;
-      plain = plain_sets files parts.shapes;
-      none = parts.layout;
-      small = span_fits (images_of files) parts.linkedit;
-      bytes = segment_bytes files bytes;
-    }
+    ready_set files few bytes parts.read parts.layout (sym parts.linkedit)
 
 alone : (f : List ℕ) → breaks_wrong_kind Standalone (header_in f 0) ≡ None → form_of (image_of f 0).header ≡ Standalone
 unfolding image_from
@@ -275,10 +260,10 @@ standalone files none k i lt at =
 pub corresponds_always : (files : List (List ℕ)) → length files ≤ 4096 → AreFiles files → set_break files ≡ None → CorrespondsAlways files (built files)
 corresponds_always files few bytes none =
     let is : List Img = images_of files in
-    let ready : IsReady (images_of files) = ready_set files few bytes none in
+    let ready : IsReady (images_of files) = ready_files files few bytes none in
     record {
       slides = omega (arith, most_is is ready, ready.small);
-      corresponds = λ placement placed slide permitted. corresponds_at is ready (standalone files (set_parts files none).shapes) placement slide;
+      corresponds = λ placement placed slide permitted. corresponds_at is ready (standalone files (accepted_files files (set_parts files none).read).shapes) placement slide;
     }
 
 -- and so do the caches of files in memory

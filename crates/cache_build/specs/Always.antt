@@ -5,7 +5,7 @@ use Rattle.load_model.specs.Loading.{IsPlacement}
 use Rattle.cache_header.specs.Reading.{max_slide}
 use Rattle.load_model.specs.Mapped.{IsPermitted}
 use Rattle.load_model.specs.Corresponds.{Corresponds}
-use Rattle.cache_build.specs.Breaks.{images_of}
+use Rattle.load_model.specs.Phases.{images_of}
 
 -- The files are loaded as the set of the images that they spell. The header permits at least the slides up to 0xBFE00000, which leaves room for 512 MiB of cache.
 pub record CorrespondsAlways (files : List (List ℕ)) (cache : List ℕ) : Type 0 where

@@ -15,7 +15,11 @@ use Rattle.prebind.specs.declared.resolved.WordTarget.{WordTarget}
 use Rattle.prebind.specs.Targets.{rebase_target}
 use Rattle.prebind.specs.Numbers.{Starts, number_to}
 use Rattle.slide_chain.specs.Linked.{linked_data}
-use Rattle.load_model.specs.Pointers.{rebases_in}
+use Rattle.rebase_ops.specs.Rebases.{rebases_of}
+
+-- the places that an image's rebase stream spells, in address order
+abbrev pub rebases_in : Img → List Location
+rebases_in image = rebases_of image.streams.rebase image
 
 -- where each segment of a set starts in the cache
 abbrev pub cached_starts : Laid → Starts

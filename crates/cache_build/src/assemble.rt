@@ -1,7 +1,7 @@
 // A cache from its images and their layout.
 ghost use Rattle.std.specs.Prelude.{◌≡◌, ◌≤◌, ◌%◌, ◌++◌, map, length, IfOk, OnOk, IfErr};
 ghost use Rattle.dsc_base.specs.declared.fault.SetFault.TheVariants.{Memory};
-ghost use Rattle.load_model.specs.Pointers.{rebases_in};
+ghost use Rattle.prebind.specs.Sets.{lists_of};
 ghost use Rattle.slide_chain.specs.Info.{info_bytes};
 ghost use Rattle.slide_chain.specs.Making.{info_of, linking};
 ghost use Rattle.dsc_base.specs.Edits.{change_all};
@@ -11,9 +11,8 @@ ghost use Rattle.cache_build.specs.Places.{frame_of};
 ghost use Rattle.cache_build.specs.Pointers.{pointers_of, places, with_pointers};
 ghost use Rattle.cache_build.specs.Cache.{headers_of, all_pages, cache_from, slide_bytes};
 ghost use Rattle.cache_build.specs.Fits.{AreSized, HasMoves, CanAssemble};
-ghost use Rattle.cache_build.specs.Setting.{AreRead, AreLed, ArePointers, CanChain, CanLink};
+ghost use Rattle.cache_build.specs.Setting.{AreRead, AllLeadToPlaces, ArePointers, CanChain, CanLink};
 
-use crate::fault::of_image;
 use crate::frame::Frame;
 use crate::head::cache_head;
 use crate::headers::cached_headers;
@@ -21,7 +20,8 @@ use crate::pointers::set_pointers;
 use crate::segments::{append_mapping, append_padded};
 use cache_layout::{Layout, Mapping};
 use dsc_base::{Gate, PAGE, SetFault};
-use macho_image::{Image, Location};
+use macho_image::Image;
+use prebind::ImageStreams;
 use slide_chain::{make_slide_info, slide_info_bytes, write_chains};
 use std::alloc::Global;
 use std::thread::Threads;
@@ -45,7 +45,7 @@ fn link<R: Threads + Sync>(
 {
     let info = match make_slide_info(alloc, area.len() as u64, words, DELTA_BITS) {
         Ok(info) => info,
-        Err(fault) => return Err(of_image(fault, 0)),
+        Err(fault) => return Err(fault.in_image(0)),
     };
     write_chains(rt, area, words, &info, jobs);
     let bytes = slide_info_bytes(alloc, &info)?;
@@ -58,16 +58,16 @@ fn link_data<R: Threads + Sync>(
     alloc: Global,
     area: &mut [u8],
     images: &[Image<'_>],
-    streams: &[Vec<Location>],
+    streams: &[ImageStreams<'_>],
     layout: &Layout,
     jobs: u32,
 ) -> Result<Vec<u8>, SetFault>
     requires jobs { (1 ≤ jobs) × (jobs ≤ 64) }
     requires few { length images.now ≤ 4096 }
     requires moves { HasMoves layout.now images.now }
-    requires streams { map (λ r. r.items) streams.now ≡ map rebases_in images.now }
+    requires streams { streams.now ≡ map lists_of images.now }
     requires read { AreRead images.now }
-    requires led { AreLed images.now }
+    requires led { AllLeadToPlaces images.now }
     requires room { length area.old ≤ 0x2000_0000 }
     requires pointers { ArePointers (length area.old) (pointers_of layout.now images.now) }
     ensures linked { OnOk result (area.new ≡ with_pointers (pointers_of layout.now images.now) area.old) }
@@ -85,7 +85,7 @@ fn append_data<R: Threads + Sync>(
     alloc: Global,
     cache: &mut Vec<u8>,
     images: &[Image<'_>],
-    streams: &[Vec<Location>],
+    streams: &[ImageStreams<'_>],
     layout: &Layout,
     headers: &[Vec<u8>],
     jobs: u32,
@@ -93,7 +93,7 @@ fn append_data<R: Threads + Sync>(
     requires jobs { (1 ≤ jobs) × (jobs ≤ 64) }
     requires assembles { CanAssemble layout.now images.now }
     requires links { CanLink layout.now images.now }
-    requires streams { map (λ r. r.items) streams.now ≡ map rebases_in images.now }
+    requires streams { streams.now ≡ map lists_of images.now }
     requires headers { map (λ h. h.items) headers.now ≡ headers_of layout.now images.now }
     requires sizes { AreSized (map (λ h. h.items) headers.now) images.now }
     ensures appended { OnOk result (cache.new.items ≡ cache.old.items ++ with_pointers (pointers_of layout.now images.now) (mapping_part Writable (all_pages (map (λ h. h.items) headers.now) images.now) images.now)) }
@@ -121,7 +121,7 @@ pub fn assemble<R: Threads + Sync, G: Gate>(
     rt: &R,
     alloc: Global,
     images: &[Image<'_>],
-    streams: &[Vec<Location>],
+    streams: &[ImageStreams<'_>],
     layout: &Layout,
     frame: &Frame,
     jobs: u32,
@@ -130,7 +130,7 @@ pub fn assemble<R: Threads + Sync, G: Gate>(
     requires jobs { (1 ≤ jobs) × (jobs ≤ 64) }
     requires assembles { CanAssemble layout.now images.now }
     requires links { CanLink layout.now images.now }
-    requires streams { map (λ r. r.items) streams.now ≡ map rebases_in images.now }
+    requires streams { streams.now ≡ map lists_of images.now }
     requires frame { frame.now ≡ frame_of layout.now }
     ensures cache { IfOk result (λ c. c.items ≡ cache_from layout.now images.now) }
     ensures cause { IfErr result (λ e. e ≡ Memory) }

@@ -1,18 +1,16 @@
 // Building a cache of a set of dylibs.
 ghost use Rattle.std.specs.Prelude.{◌≡◌, ◌≤◌, ◌<◌, None, length, All, IfOk, IfErr, OnOk};
 ghost use Rattle.cache_build.specs.Breaks.{set_break, too_large_at};
-ghost use Rattle.cache_build.specs.Built.{contents, built};
+ghost use Rattle.load_model.specs.Phases.{contents};
+ghost use Rattle.cache_build.specs.Built.{built};
 ghost use Rattle.dsc_base.specs.Refusals.{IsSetRefusal};
 ghost use Rattle.cache_build.specs.Always.{CorrespondsAlways};
 
-use crate::accept::accept_all;
 use crate::assemble::assemble;
-use crate::duplicates::duplicate_name;
 use crate::frame::Frame;
-use crate::streams::read_streams;
-use crate::targets::first_stray;
 use cache_layout::lay_out;
 use dsc_base::{Break, Gate, Rule, SPAN_LIMIT, SetFault};
+use load_model::read_files;
 use std::alloc::Global;
 use std::thread::Threads;
 
@@ -73,15 +71,8 @@ pub fn build<R: Threads + Sync, G: Gate + Sync>(
     ensures cause { IfErr result (IsSetRefusal (set_break (contents files.now))) }
 {
     files_are_bytes(files);
-    let images = accept_all(alloc, files)?;
-    let streams = read_streams(alloc, &images)?;
-    if let Some(found) = duplicate_name(alloc, &images)? {
-        return Err(SetFault::Broken(found));
-    }
-    if let Some(found) = first_stray(alloc, &images, &streams)? {
-        return Err(SetFault::Broken(found));
-    }
-    let layout = lay_out(alloc, &images)?;
+    let set = read_files(alloc, files)?;
+    let layout = lay_out(alloc, &set.images)?;
     let frame = Frame::behind(&layout);
     if let Some(found) = too_large(frame.span) {
         return Err(SetFault::Broken(found));
@@ -89,8 +80,8 @@ pub fn build<R: Threads + Sync, G: Gate + Sync>(
     let cache = assemble(
         rt,
         alloc,
-        &images,
-        &streams,
+        &set.images,
+        &set.streams,
         &layout,
         &frame,
         options.jobs,

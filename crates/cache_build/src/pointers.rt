@@ -3,15 +3,16 @@ ghost use Rattle.std.specs.Prelude.{◌≡◌, ◌≤◌, ◌<◌, ◌++◌, [],
 ghost use Rattle.std.specs.List.Sorted.{IsNonDecreasingBy};
 ghost use Rattle.dsc_base.specs.Edits.{AllInside, put_all};
 ghost use Rattle.macho_image.specs.Segments.{contains};
-ghost use Rattle.load_model.specs.Pointers.{rebases_in};
-ghost use Rattle.cache_build.specs.Pointers.{moved_number, image_pointers, pointers_of, places};
+ghost use Rattle.prebind.specs.Sets.{lists_of};
+ghost use Rattle.cache_build.specs.Pointers.{rebases_in, moved_number, image_pointers, pointers_of, places};
 ghost use Rattle.rebase_ops.specs.Rebases.{AreRebases};
-ghost use Rattle.cache_build.specs.Setting.{edit_in, all_edits, Belong, AreRead, AreLedFrom, AreLed};
+ghost use Rattle.cache_build.specs.Setting.{edit_in, all_edits, Belong, AreRead, LeadToPlaces, AllLeadToPlaces};
 ghost use Rattle.cache_build.specs.Fits.{HasMoves};
 
 use cache_layout::Layout;
 use dsc_base::{NoMemory, put_u64};
 use macho_image::{Image, Inside, Location, Moved, Segment, SegmentIndex, number_at_address};
+use prebind::ImageStreams;
 use std::alloc::Global;
 
 fn contains(segment: &Segment<'_>, address: u64) -> bool
@@ -120,7 +121,7 @@ fn set_in_image(
     requires one_each { length (slice_index_or layout.now.moves number []) ≡ length image.now.segments }
     requires pointers { pointers.now ≡ rebases_in image.now }
     requires read { AreRebases image.now pointers.now }
-    requires led { AreLedFrom number image.now }
+    requires led { LeadToPlaces number image.now }
     requires room { AllInside (length area.old) (image_pointers layout.now number image.now) }
     ensures set { OnOk result (area.new ≡ put_all (image_pointers layout.now number image.now) area.old) }
     ensures words { OnOk result (words.new.items ≡ words.old.items ++ places (image_pointers layout.now number image.now)) }
@@ -141,10 +142,10 @@ fn set_in_image(
 }
 
 /// How many pointers there are.
-fn pointer_count(streams: &[Vec<Location>]) -> usize {
+fn pointer_count(streams: &[ImageStreams<'_>]) -> usize {
     let mut count: usize = 0;
-    for pointers in streams {
-        count = count.saturating_add(pointers.len());
+    for stream in streams {
+        count = count.saturating_add(stream.rebases.len());
     }
     count
 }
@@ -154,27 +155,28 @@ pub fn set_pointers(
     alloc: Global,
     area: &mut [u8],
     images: &[Image<'_>],
-    streams: &[Vec<Location>],
+    streams: &[ImageStreams<'_>],
     layout: &Layout,
 ) -> Result<Vec<u64>, NoMemory>
     requires few { length images.now ≤ 4096 }
     requires one_each { HasMoves layout.now images.now }
-    requires streams { map (λ r. r.items) streams.now ≡ map rebases_in images.now }
+    requires streams { streams.now ≡ map lists_of images.now }
     requires read { AreRead images.now }
-    requires led { AreLed images.now }
+    requires led { AllLeadToPlaces images.now }
     requires room { AllInside (length area.old) (pointers_of layout.now images.now) }
     ensures set { OnOk result (area.new ≡ put_all (pointers_of layout.now images.now) area.old) }
     ensures words { IfOk result (λ v. v.items ≡ places (pointers_of layout.now images.now)) }
 {
     let mut words = Vec::with_capacity(alloc, pointer_count(streams))?;
     for (number, image) in images.iter().enumerate() {
+        let read = &streams[number];
         set_in_image(
             alloc,
             area,
             &mut words,
             number as u32,
             image,
-            &streams[number],
+            &read.rebases,
             layout,
         )?;
     }

@@ -8,7 +8,7 @@ use Rattle.std.proofs.lemmas.List.Elements.{all_zip_more, length_all_zip, All-pu
 use Rattle.std.proofs.lemmas.List.Sums.{sum_by_push}
 use Rattle.dsc_base.specs.Outside.{Files, HasFile, Rose}
 use Rattle.dsc_base.specs.declared.fault.Break.{Break}
-use Rattle.cache_build.specs.Built.{contents}
+use Rattle.load_model.specs.Phases.{contents}
 use Rattle.dsc_tool.specs.declared.stop.Stop.{Stop}
 use Rattle.dsc_tool.specs.declared.stop.Stop.TheVariants.{BadWords, Unread, Refused, Memory}
 use Rattle.dsc_tool.specs.Inputs.{AreRead, IsTooLarge, InputCause, IsReadingStop, ReadCause, total}

@@ -1,6 +1,6 @@
 // Reading the inputs.
 ghost use Rattle.std.specs.Prelude.{◌≡◌, ◌≤◌, ◌+◌, IfOk, IfErr, length};
-ghost use Rattle.cache_build.specs.Built.{contents};
+ghost use Rattle.load_model.specs.Phases.{contents};
 ghost use Rattle.dsc_base.specs.Outside.{HasFile};
 ghost use Rattle.dsc_tool.specs.Inputs.{AreRead, InputCause, ReadCause};
 ghost use Rattle.dsc_tool.specs.Stops.{file_limit, input_limit};

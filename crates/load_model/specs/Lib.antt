@@ -1,6 +1,8 @@
 pub mod Corresponds
-pub mod Limits
 pub mod Loading
 pub mod Mapped
 pub mod Memory
-pub mod Pointers
+pub mod NotYet
+pub mod Phases
+pub mod Placed
+pub mod Sums

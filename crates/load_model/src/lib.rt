@@ -1,2 +1,11 @@
-//! What loading separate files means, what mapping a cache means, and when the two correspond.
+//! What loading separate files means, what mapping a cache means, and when the two correspond; and files read
+//! and linked into the set that is loaded.
 #![tactic(auto)]
+
+mod accept;
+mod linkedits;
+mod not_yet;
+mod set;
+mod symbols;
+
+pub use set::{FileSet, read_files};

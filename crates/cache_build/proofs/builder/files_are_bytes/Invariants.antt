@@ -1,6 +1,6 @@
 use Rattle.std.proofs.Common.{◌<◌, take}
 use Rattle.std.specs.List.{All}
-use Rattle.cache_build.specs.Built.{contents}
+use Rattle.load_model.specs.Phases.{contents}
 use Rattle.cache_build.proofs.builder.files_are_bytes.Given as goal
 
 abbrev pub invariant-loop-file : goal.invariant-loop-file

@@ -5,9 +5,10 @@ use Rattle.dsc_base.specs.Edits.{put_all, AllInside}
 use Rattle.macho_image.specs.Records.{Img}
 use Rattle.macho_image.specs.declared.place.Location.{Location}
 use Rattle.rebase_ops.specs.Rebases.{AreRebases}
+use Rattle.prebind.specs.Sets.{StreamLists}
 use Rattle.cache_build.specs.Pointers.{image_pointers, pointers_of, places}
 use Rattle.cache_build.proofs.SetPointerLaws.{put_none, edits_inside, all_set_more, all_placed_more}
-use Rattle.cache_build.proofs.StreamLaws.{stream_at}
+use Rattle.cache_build.proofs.ReadSets.{stream_at}
 use Rattle.cache_build.proofs.pointers.set_pointers.Goals as goal
 
 pub loop-number-init : goal.loop-number-init
@@ -35,13 +36,15 @@ set_in_image-requires-clause-one_each c = c.requires.one_each.segments c.loop-nu
 pub set_in_image-requires-clause-pointers : goal.set_in_image-requires-clause-pointers
 set_in_image-requires-clause-pointers c =
     c.deref.ensures.value
-    ∙ stream_at c.args.images.now c.args.streams.now c.loop-number.number c.index-images-number.result c.index-streams-number.result c.requires.streams c.loop-number-test.true c.index-images-number.is c.index-streams-number.is
+    ∙ (ap (λ (s : StreamLists). s.rebases) c.read.view_is
+    ∙ stream_at c.args.images.now c.args.streams.now c.loop-number.number c.index-images-number.result c.index-streams-number.result c.requires.streams c.loop-number-test.true c.index-images-number.is c.index-streams-number.is)
 
 pub set_in_image-requires-clause-read : goal.set_in_image-requires-clause-read
 set_in_image-requires-clause-read c =
     let i = c.index-images-number.result in
     let found = c.deref.ensures.value
-    ∙ stream_at c.args.images.now c.args.streams.now c.loop-number.number c.index-images-number.result c.index-streams-number.result c.requires.streams c.loop-number-test.true c.index-images-number.is c.index-streams-number.is in
+    ∙ (ap (λ (s : StreamLists). s.rebases) c.read.view_is
+    ∙ stream_at c.args.images.now c.args.streams.now c.loop-number.number c.index-images-number.result c.index-streams-number.result c.requires.streams c.loop-number-test.true c.index-images-number.is c.index-streams-number.is) in
     subst (λ (ws : List Location). AreRebases i ws) (sym found)
     (c.requires.read c.loop-number.number i (slice_get_read c.args.images.now (length c.args.images.now) c.loop-number.number i refl c.loop-number-test.true c.index-images-number.is))
 

@@ -2,7 +2,7 @@
 use Rattle.std.proofs.Common.{◌≡◌, ◌≤◌, ◌+◌, ◌++◌, ℕ, List, [], ◌∷◌, length, take, Option, sym, ap, ap₂, ◌∙◌, subst, arith}
 use Rattle.std.proofs.lemmas.Result.{err_from_is_err_and}
 use Rattle.dsc_base.specs.Outside.{Files, HasFile}
-use Rattle.cache_build.specs.Built.{contents}
+use Rattle.load_model.specs.Phases.{contents}
 use Rattle.dsc_tool.specs.Inputs.{AreRead, InputCause, total}
 use Rattle.dsc_tool.specs.Stops.{input_limit}
 use Rattle.dsc_tool.proofs.InputLaws.{same_item, read_more, total_more, contents_more, stopped_at}

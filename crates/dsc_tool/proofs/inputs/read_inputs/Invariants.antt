@@ -1,6 +1,6 @@
 -- The inputs up to this one are read, and the store is as before but for its count of failed gets.
 use Rattle.std.proofs.Common.{◌≡◌, ◌≤◌, take}
-use Rattle.cache_build.specs.Built.{contents}
+use Rattle.load_model.specs.Phases.{contents}
 use Rattle.dsc_tool.specs.Inputs.{AreRead, total}
 use Rattle.dsc_tool.proofs.inputs.read_inputs.Given as goal
 

@@ -1,5 +1,0 @@
-use Rattle.cache_build.proofs.SetLaws.{AreAccepted}
-use Rattle.cache_build.proofs.accept.accept_all.Given as goal
-
-abbrev pub invariant-loop-number : goal.invariant-loop-number
-invariant-loop-number l = AreAccepted l.files l.images.items l.number

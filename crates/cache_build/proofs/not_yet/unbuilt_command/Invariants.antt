@@ -1,5 +1,0 @@
-use Rattle.cache_build.proofs.WalkLaws.{IsBuilt}
-use Rattle.cache_build.proofs.not_yet.unbuilt_command.Given as goal
-
-abbrev pub invariant-loop-number : goal.invariant-loop-number
-invariant-loop-number l = IsBuilt l.header l.split l._number l.at
