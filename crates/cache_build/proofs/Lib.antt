@@ -26,6 +26,7 @@ pub mod SectionLaws
 pub mod SegmentPages
 pub mod SetPointerLaws
 pub mod SetPointers
+pub mod SpanLaws
 pub mod TargetLaws
 pub mod Theorem
 pub mod WholePages

@@ -237,7 +237,7 @@ set_parts files none =
 abbrev pub AreFiles : List (List ℕ) → Type 0
 AreFiles files = All (λ (f : List ℕ). All (λ (b : ℕ). b < 256) f) files
 
-ready_files : (files : List (List ℕ)) → length files ≤ 4096 → AreFiles files → set_break files ≡ None → IsReady (images_of files)
+pub ready_files : (files : List (List ℕ)) → length files ≤ 4096 → AreFiles files → set_break files ≡ None → IsReady (images_of files)
 unfolding linkedit_break
 ready_files files few bytes none =
     let parts : BreaksNone files = set_parts files none in

@@ -1,6 +1,7 @@
 // Building a cache of a set of dylibs.
 ghost use Rattle.std.specs.Prelude.{◌≡◌, ◌≤◌, ◌<◌, None, length, All, IfOk, IfErr, OnOk};
 ghost use Rattle.cache_build.specs.Breaks.{set_break, too_large_at};
+ghost use Rattle.cache_header.specs.Reading.{span};
 ghost use Rattle.load_model.specs.Phases.{contents};
 ghost use Rattle.cache_build.specs.Built.{built};
 ghost use Rattle.dsc_base.specs.Refusals.{IsSetRefusal};
@@ -68,6 +69,7 @@ pub fn build<R: Threads + Sync, G: Gate + Sync>(
     ensures cache { IfOk result (λ c. c.items ≡ built (contents files.now)) }
     ensures unbroken { OnOk result (set_break (contents files.now) ≡ None) }
     ensures corresponds { set_break (contents files.now) ≡ None → CorrespondsAlways (contents files.now) (built (contents files.now)) }
+    ensures span { set_break (contents files.now) ≡ None → span (built (contents files.now)) ≡ length (built (contents files.now)) }
     ensures cause { IfErr result (IsSetRefusal (set_break (contents files.now))) }
 {
     files_are_bytes(files);

@@ -1,6 +1,6 @@
 -- The numbers and tables at the head of a cache file, after <mach-o/dyld_cache_format.h>.
 use Rattle.std.specs.Prelude.{ℕ, zero, suc, ◌+◌, ◌*◌, Bool, nat_eq, nat_le, if◌then◌else◌, List, [], ◌∷◌, take, drop, map, replicate}
-use Rattle.std.specs.List.{before_first, range_with_len}
+use Rattle.std.specs.List.{before_first, range_with_len, sum_by}
 use Rattle.dsc_base.specs.Numbers.{number_at}
 use Rattle.dsc_base.specs.declared.fault.Span.{Span}
 use Rattle.cache_header.specs.declared.head.Mapping.{Mapping}
@@ -32,6 +32,10 @@ mappings_from (suc n) cache at = mapping_at cache at ∷ mappings_from n cache (
 
 unfoldable pub mappings_of : List ℕ → List Mapping
 mappings_of cache = mappings_from (number_at 4 cache 0x14) cache (number_at 4 cache 0x10)
+
+-- the span of a cache: how many bytes its mappings have together
+abbrev pub span : List ℕ → ℕ
+span cache = sum_by (λ (m : Mapping). m.size) (mappings_of cache)
 
 abbrev pub image_count : List ℕ → ℕ
 image_count cache = header_number 4 cache 0x1C

@@ -1,6 +1,7 @@
 -- How a run ends, by what its parts left.
-use Rattle.std.proofs.Common.{◌≡◌, ◌⊎◌, ℕ, List, length, string_bytes, Option, ap, sym, ◌∙◌, subst, inl, inr}
+use Rattle.std.proofs.Common.{◌≡◌, ◌⊎◌, ℕ, List, length, string_bytes, Option, refl, ap, sym, ◌∙◌, subst, inl, inr}
 use Rattle.dsc_base.specs.Outside.{Files, LeavesPrefix, AppendsPrefix, with_file}
+use Rattle.cache_header.specs.Reading.{span}
 use Rattle.cache_build.specs.Built.{built}
 use Rattle.dsc_tool.specs.declared.product.Product.{Product}
 use Rattle.dsc_tool.specs.declared.status.Status.{Status}
@@ -21,8 +22,8 @@ file_of : (files : Option Files) (order : Order) (bytes : List (List ℕ)) (p : 
 file_of files order bytes p is =
     ap (λ (n : List ℕ). with_file files n p.cache.items) is.name ∙ ap (λ (c : List ℕ). with_file files order.out c) is.cache
 
-line_of : (order : Order) (bytes : List (List ℕ)) (p : Product) → IsProductOf order bytes p → string_bytes p.line ≡ built_line (length bytes) (length (built bytes))
-line_of order bytes p is = is.line ∙ ap (λ (c : List ℕ). built_line (length bytes) (length c)) is.cache
+line_of : (order : Order) (bytes : List (List ℕ)) (p : Product) → IsProductOf order bytes p → string_bytes p.line ≡ built_line (length bytes) (span (built bytes))
+line_of order bytes p is = is.line ∙ ap (λ (c : List ℕ). built_line (length bytes) (span c)) is.cache
 
 done : (words : List (List ℕ)) (before after : World) (gets : ℕ) (p : Product) → IsProduct words before.files p
     → IsDelivered p (record before { get_faults = gets }) after → IsDone words before after
@@ -31,6 +32,8 @@ done words before after gets p (order, bytes, accepted, is) all =
       order = order;
       bytes = bytes;
       accepted = accepted;
+      cache = built bytes;
+      is = refl;
       corresponds = is.corresponds;
       files = all.files ∙ file_of before.files order bytes p is;
       out = all.out ∙ ap (λ (line : List ℕ). appended before.out line) (line_of order bytes p is);
@@ -40,7 +43,7 @@ done words before after gets p (order, bytes, accepted, is) all =
 -- the part of the product that was put is that part of the inputs' cache and line
 part_of : (before after : World) (order : Order) (bytes : List (List ℕ)) (p : Product) → IsProductOf order bytes p
     → IsFilePart before after p.name p.cache.items ⊎ IsLinePart before after p.name p.cache.items (string_bytes p.line)
-    → IsFilePart before after order.out (built bytes) ⊎ IsLinePart before after order.out (built bytes) (built_line (length bytes) (length (built bytes)))
+    → IsFilePart before after order.out (built bytes) ⊎ IsLinePart before after order.out (built bytes) (built_line (length bytes) (span (built bytes)))
 part_of before after order bytes p is (inl part) = inl (record {
   fault = part.fault;
   files = subst (λ (c : List ℕ). LeavesPrefix before.files after.files order.out c) is.cache (subst (λ (n : List ℕ). LeavesPrefix before.files after.files n p.cache.items) is.name part.files);
@@ -66,7 +69,7 @@ cut_short words before after gets p (order, bytes, accepted, is) some =
       order = order;
       bytes = bytes;
       accepted = accepted;
-      part = same_gets before after gets order.out (built bytes) (built_line (length bytes) (length (built bytes))) (part_of (record before { get_faults = gets }) after order bytes p is some.part);
+      part = same_gets before after gets order.out (built bytes) (built_line (length bytes) (span (built bytes))) (part_of (record before { get_faults = gets }) after order bytes p is some.part);
       err = some.err;
     }
 

@@ -34,10 +34,6 @@ pub output-accepted : (words : List (List ℕ)) (files : Files) (order : Order) 
 output-accepted words files order bytes accepted =
     ended words files _ (whole_end words files order bytes None accepted.read accepted.unbroken)
 
-pub output-broken : (words : List (List ℕ)) (files : Files) (order : Order) (bytes : List (List ℕ)) (b : Break) → IsRead words (Some files) order bytes → set_break bytes ≡ Some b
-    → output words files ≡ outcome_of files (Err (Refused b))
-output-broken words files order bytes b read is = ended words files _ (whole_end words files order bytes (Some b) read is)
-
 pub output-bad_words : (words : List (List ℕ)) (files : Files) → command_of words ≡ None → output words files ≡ outcome_of files (Err BadWords)
 output-bad_words words files none = ended words files _ (ap (λ (o : Option Order). command_end files o) none)
 

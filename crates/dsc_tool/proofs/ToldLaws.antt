@@ -1,7 +1,8 @@
 -- How a run over told files stands to its output.
 use Rattle.std.proofs.Common.{◌≡◌, ◌<◌, ◌⊎◌, ℕ, List, [], length, Option, Some, Result, Ok, Err, refl, ap, sym, ◌∙◌, subst, inl, inr}
 use Rattle.dsc_base.specs.Outside.{Files, AppendsPrefix, with_file}
-use Rattle.cache_build.specs.Built.{built}
+use Rattle.std.specs.FinMap.{insert}
+use Rattle.cache_header.specs.Reading.{span}
 use Rattle.dsc_tool.specs.declared.status.Status.{Status}
 use Rattle.dsc_tool.specs.declared.status.Status.TheVariants.{Done, Refused, BadWords, ReadFault, WriteFault, Memory, Differs}
 use Rattle.dsc_tool.specs.declared.stop.Stop.{Stop}
@@ -11,9 +12,9 @@ use Rattle.dsc_tool.specs.Output.{Placed, Outcome, command_end, outcome_of, outp
 use Rattle.dsc_tool.specs.Ran.{IsDone, IsStopped, IsCutShort, Ends, IsOutcome, IsSettled, IsFaultText, IsByOutput, IsBuilt, Ran}
 use Rattle.dsc_tool.specs.Statuses.{status_of}
 use Rattle.dsc_tool.specs.Streams.{World, AnyRose, appended}
-use Rattle.dsc_tool.specs.Texts.{text_of, cannot_write_line}
+use Rattle.dsc_tool.specs.Texts.{text_of, built_line, cannot_write_line}
 use Rattle.dsc_tool.specs.Words.{Order, command_of}
-use Rattle.dsc_tool.proofs.OutputLaws.{output-accepted, output-broken, output-bad_words, output-refused, output-unread}
+use Rattle.dsc_tool.proofs.OutputLaws.{output-accepted, output-bad_words, output-refused, output-unread}
 use Rattle.dsc_tool.proofs.PrefixLaws.{appended-none, prefix-none, prefix-whole}
 
 -- the cause of a stop, over told files
@@ -34,7 +35,8 @@ exact words files before after status o =
       settled = λ _. o;
       quiet = λ _. inr o;
       complete = λ order bytes accepted _. inr (subst (λ (e : Outcome). IsOutcome e before after status) (output-accepted words files order bytes accepted) o);
-      refuses = λ order bytes b read is _. inr (subst (λ (e : Outcome). IsOutcome e before after status) (output-broken words files order bytes b read is) o);
+      refuses = λ order b spelled cause _.
+          inr (subst (λ (e : Outcome). IsOutcome e before after status) (output-refused words files before.get_faults after.get_faults b (order, spelled, cause)) o);
       printed = prefix-whole before.out after.out (output words files).out o.out;
       printed_all = λ _. o.out;
       told = ((output words files).err, inl refl, prefix-whole before.err after.err (output words files).err o.err);
@@ -78,7 +80,7 @@ unsettled words files before after status never other why same told =
       settled = λ is. absurd (never is);
       quiet = λ still. excused _ before after status why still;
       complete = λ _ _ _ still. excused _ before after status why still;
-      refuses = λ _ _ _ _ _ still. excused _ before after status why still;
+      refuses = λ _ _ _ _ still. excused _ before after status why still;
       printed = prefix-none before.out after.out (output words files).out same;
       printed_all = printed_none words files before after status other same;
       told = told;
@@ -97,8 +99,8 @@ done_told words files before after told is =
     (sym (output-accepted words files is.order is.bytes (accepted_told words files before is.order is.bytes told is.accepted)))
     (record {
       status_is = refl;
-      files = is.files ∙ ap (λ (f : Option Files). with_file f is.order.out (built is.bytes)) told;
-      out = is.out;
+      files = is.files ∙ (ap (λ (f : Option Files). with_file f is.order.out is.cache) told ∙ ap (λ (c : List ℕ). Some (insert files is.order.out c)) is.is);
+      out = is.out ∙ ap (λ (c : List ℕ). appended before.out (built_line (length is.bytes) (span c))) is.is;
       err = appended-none before.err after.err is.err;
     })
 
@@ -120,7 +122,7 @@ cut_told words files before after told cut =
       settled = λ never. absurd never;
       quiet = λ still. excused _ before after WriteFault rose still;
       complete = λ _ _ _ still. excused _ before after WriteFault rose still;
-      refuses = λ _ _ _ _ _ still. excused _ before after WriteFault rose still;
+      refuses = λ _ _ _ _ still. excused _ before after WriteFault rose still;
       printed = subst (λ (o : Outcome). AppendsPrefix before.out o.out after.out) (sym done)
           (elim cut.part [ inl file ↦ prefix-none before.out after.out _ file.out | inr line ↦ line.out ]);
       printed_all = λ is. absurd (let never : WriteFault ≡ Done = is ∙ ap (λ (o : Outcome). o.status) done in cc);
@@ -164,8 +166,10 @@ built-told words files before after told is =
       spelled = accepted.read.spelled;
       inputs = accepted.read.inputs;
       unbroken = accepted.unbroken;
+      cache = is.cache;
+      is = is.is;
       corresponds = is.corresponds;
-      placed = is.files ∙ ap (λ (f : Option Files). with_file f is.order.out (built is.bytes)) told;
+      placed = is.files ∙ ap (λ (f : Option Files). with_file f is.order.out is.cache) told;
     }
 
 pub done-built : (words : List (List ℕ)) (files : Files) (before after : World) (status : Status) → before.files ≡ Some files → status ≡ Done

@@ -3,6 +3,7 @@ use Rattle.std.specs.Prelude.{ℕ, ◌+◌, ◌++◌, nat_lt, if◌then◌else�
 use Rattle.std.specs.FinMap.{get, insert}
 use Rattle.dsc_base.specs.Outside.{Files}
 use Rattle.dsc_base.specs.declared.fault.Break.{Break}
+use Rattle.cache_header.specs.Reading.{span}
 use Rattle.cache_build.specs.Breaks.{set_break}
 use Rattle.cache_build.specs.Built.{built}
 use Rattle.dsc_tool.specs.declared.status.Status.{Status}
@@ -58,7 +59,7 @@ pub record Outcome : Type 0 where
 
 -- a cache is put at its name and told of on standard output; a stop is told of on standard error
 abbrev pub outcome_of : Files → Result Placed Stop → Outcome
-outcome_of files (Ok p) = record { status = Done; out = built_line p.images (length p.cache); err = []; files = insert files p.name p.cache }
+outcome_of files (Ok p) = record { status = Done; out = built_line p.images (span p.cache); err = []; files = insert files p.name p.cache }
 outcome_of files (Err stop) = record { status = status_of stop; out = []; err = text_of stop; files = files }
 
 unfoldable pub output : List (List ℕ) → Files → Outcome

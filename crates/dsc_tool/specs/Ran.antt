@@ -3,6 +3,7 @@ use Rattle.std.specs.Prelude.{◌≡◌, ◌<◌, ◌⊎◌, ℕ, List, length, 
 use Rattle.std.specs.FinMap.{insert}
 use Rattle.dsc_base.specs.Outside.{Files, Rose, AppendsPrefix, with_file}
 use Rattle.dsc_base.specs.declared.fault.Break.{Break}
+use Rattle.cache_header.specs.Reading.{span}
 use Rattle.cache_build.specs.Breaks.{set_break}
 use Rattle.cache_build.specs.Always.{CorrespondsAlways}
 use Rattle.cache_build.specs.Built.{built}
@@ -10,7 +11,7 @@ use Rattle.dsc_tool.specs.declared.status.Status.{Status}
 use Rattle.dsc_tool.specs.declared.status.Status.TheVariants.{Done, Refused, BadWords, ReadFault, WriteFault, Memory, Differs}
 use Rattle.dsc_tool.specs.declared.stop.Stop.{Stop}
 use Rattle.dsc_tool.specs.declared.stop.Stop.TheVariants.{BadWords as NoCommand, Unread, Refused as Broken, Memory as NoMemory}
-use Rattle.dsc_tool.specs.Causes.{IsRead, IsAccepted, IsDue}
+use Rattle.dsc_tool.specs.Causes.{IsAccepted, RefusalCause, IsDue}
 use Rattle.dsc_tool.specs.Inputs.{AreRead}
 use Rattle.dsc_tool.specs.Output.{Outcome, outcome_of, output}
 use Rattle.dsc_tool.specs.Steps.{Tells, IsFilePart, IsLinePart}
@@ -23,9 +24,11 @@ pub record IsDone (words : List (List ℕ)) (before after : World) : Type 0 wher
   pub order : Order
   pub bytes : List (List ℕ)
   pub accepted : IsAccepted words before.files order bytes
-  pub corresponds : CorrespondsAlways bytes (built bytes)
-  pub files : after.files ≡ with_file before.files order.out (built bytes)
-  pub out : after.out ≡ appended before.out (built_line (length bytes) (length (built bytes)))
+  pub cache : List ℕ
+  pub is : cache ≡ built bytes
+  pub corresponds : CorrespondsAlways bytes cache
+  pub files : after.files ≡ with_file before.files order.out cache
+  pub out : after.out ≡ appended before.out (built_line (length bytes) (span cache))
   pub err : after.err ≡ before.err
 
 -- The run stopped for this cause before anything was put, and standard error tells of it.
@@ -50,7 +53,7 @@ pub record IsCutShort (words : List (List ℕ)) (before after : World) : Type 0 
   pub bytes : List (List ℕ)
   pub accepted : IsAccepted words before.files order bytes
   pub part : IsFilePart before after order.out (built bytes)
-      ⊎ IsLinePart before after order.out (built bytes) (built_line (length bytes) (length (built bytes)))
+      ⊎ IsLinePart before after order.out (built bytes) (built_line (length bytes) (span (built bytes)))
   pub err : Tells cannot_write_line WriteFault before.err before.err_faults after.err after.err_faults WriteFault
 
 -- what is so after each status, over every store and sink
@@ -98,8 +101,8 @@ pub record IsByOutput (words : List (List ℕ)) (files : Files) (before after : 
   -- so accepted inputs are built, where nothing has failed
   pub complete : (order : Order) (bytes : List (List ℕ)) → IsAccepted words (Some files) order bytes → (AnyRose before after → ⊥)
       → (status ≡ Memory) ⊎ IsOutcome (outcome_of files (Ok record { name = order.out; images = length bytes; cache = built bytes })) before after status
-  -- and inputs that break a rule are refused by the first one, where nothing has failed
-  pub refuses : (order : Order) (bytes : List (List ℕ)) (b : Break) → IsRead words (Some files) order bytes → set_break bytes ≡ Some b → (AnyRose before after → ⊥)
+  -- and inputs that break a rule, or pass a limit while they are read, are refused by the first one, where nothing has failed
+  pub refuses : (order : Order) (b : Break) → command_of words ≡ Some order → RefusalCause words (Some files) before.get_faults after.get_faults order b → (AnyRose before after → ⊥)
       → (status ≡ Memory) ⊎ IsOutcome (outcome_of files (Err (Broken b))) before after status
   -- standard output has a prefix of the output's line, and all of it where the status is the output's
   pub printed : AppendsPrefix before.out (output words files).out after.out
@@ -119,5 +122,7 @@ pub record IsBuilt (words : List (List ℕ)) (files : Files) (after : Option Fil
   pub spelled : command_of words ≡ Some order
   pub inputs : AreRead (Some files) order.inputs bytes
   pub unbroken : set_break bytes ≡ None
-  pub corresponds : CorrespondsAlways bytes (built bytes)
-  pub placed : after ≡ Some (insert files order.out (built bytes))
+  pub cache : List ℕ
+  pub is : cache ≡ built bytes
+  pub corresponds : CorrespondsAlways bytes cache
+  pub placed : after ≡ Some (insert files order.out cache)

@@ -2,6 +2,7 @@
 use Rattle.std.specs.Prelude.{◌≡◌, ◌⊎◌, ℕ, List, length, string_bytes, Option}
 use Rattle.dsc_base.specs.Outside.{Files, Rose, AppendsPrefix, LeavesPrefix, with_file}
 use Rattle.cache_build.specs.Always.{CorrespondsAlways}
+use Rattle.cache_header.specs.Reading.{span}
 use Rattle.cache_build.specs.Built.{built}
 use Rattle.dsc_tool.specs.declared.product.Product.{Product}
 use Rattle.dsc_tool.specs.declared.status.Status.{Status}
@@ -18,7 +19,7 @@ pub record IsProductOf (order : Order) (bytes : List (List ℕ)) (p : Product) :
   pub name : p.name ≡ order.out
   pub cache : p.cache.items ≡ built bytes
   pub corresponds : CorrespondsAlways bytes (built bytes)
-  pub line : string_bytes p.line ≡ built_line (length bytes) (length p.cache.items)
+  pub line : string_bytes p.line ≡ built_line (length bytes) (span p.cache.items)
 
 abbrev pub IsProduct : List (List ℕ) → Option Files → Product → Type 0
 IsProduct words files p = (order : Order) × (bytes : List (List ℕ)) × IsAccepted words files order bytes × IsProductOf order bytes p

@@ -7,6 +7,7 @@ use Rattle.cache_build.specs.Fits.{CanAssemble}
 use Rattle.cache_build.specs.Setting.{CanLink}
 use Rattle.cache_build.proofs.BuildLaws.{handed_set, set_files, set_layout, set_linkedit, set_names, set_ready, set_assembles, set_links}
 use Rattle.cache_build.proofs.HeadFacts.{IsReady}
+use Rattle.cache_build.proofs.SpanLaws.{files_span}
 use Rattle.cache_build.proofs.Theorem.{files_correspond}
 use Rattle.cache_build.proofs.builder.build.Goals as goal
 
@@ -61,3 +62,18 @@ returns-in_err-cache-clause-corresponds g c = files_correspond c.args.files.now 
 
 pub returns-clause-corresponds : goal.returns-clause-corresponds
 returns-clause-corresponds g c = files_correspond c.args.files.now c.requires.few c.files_are_bytes.ensures
+
+pub returns-in_err-set-clause-span : goal.returns-in_err-set-clause-span
+returns-in_err-set-clause-span g c = files_span c.args.files.now c.requires.few c.files_are_bytes.ensures
+
+pub returns-in_err-layout-clause-span : goal.returns-in_err-layout-clause-span
+returns-in_err-layout-clause-span g c = files_span c.args.files.now c.requires.few c.files_are_bytes.ensures
+
+pub returns-in-Some-clause-span : goal.returns-in-Some-clause-span
+returns-in-Some-clause-span g c = files_span c.args.files.now c.requires.few c.files_are_bytes.ensures
+
+pub returns-in_err-cache-clause-span : goal.returns-in_err-cache-clause-span
+returns-in_err-cache-clause-span g c = files_span c.args.files.now c.requires.few c.files_are_bytes.ensures
+
+pub returns-clause-span : goal.returns-clause-span
+returns-clause-span g c = files_span c.args.files.now c.requires.few c.files_are_bytes.ensures
