@@ -1,9 +1,9 @@
 -- The cache of a set: its length, what its head says, its mappings and its slide information.
-use Rattle.std.proofs.Common.{◌≡◌, ◌≤◌, ◌<◌, ℕ, ◌+◌, ◌-◌, List, [], ◌∷◌, ◌++◌, take, drop, length, map, get_or, replicate, All, refl, sym, ap, ap₂, ◌∙◌, subst, arith, inl, inr, length-append, append_assoc}
-use Rattle.std.specs.List.{sum_by, enumerate_from}
-use Rattle.std.proofs.lemmas.Bool.{cases_lt}
+use Rattle.std.proofs.Common.{◌≡◌, ◌≤◌, ◌<◌, ℕ, ◌+◌, ◌-◌, ◌*◌, ◌/◌, ◌%◌, ◌^◌, true, List, [], ◌∷◌, ◌++◌, take, drop, length, map, get_or, replicate, refl, sym, ap, ap₂, ◌∙◌, subst, arith, inl, inr, length-append, append_assoc}
+use Rattle.std.specs.Prelude.{nat_eq}
+use Rattle.std.specs.List.{list_any, sum_by, enumerate_from}
+use Rattle.std.proofs.lemmas.Bool.{cases_lt, cond-true, eq-eqb, or_left, or_right}
 use Rattle.std.proofs.lemmas.List.{length-drop, take_all, get_or-append_right}
-use Rattle.std.proofs.lemmas.List.Elements.{All-head, All-tail}
 use Rattle.std.proofs.Math.ListN.{get_or-append}
 use Rattle.std.proofs.lemmas.List.Sums.{sum_by-cons}
 use Rattle.slide_chain.specs.Chains.{Slide, slid_area}
@@ -31,17 +31,19 @@ use Rattle.cache_layout.proofs.NumberedLaws.{numbered-get, length-numbered}
 use Rattle.cache_layout.proofs.RoomLaws.{paged-covers}
 use Rattle.slide_chain.specs.Info.{info_read}
 use Rattle.slide_chain.specs.Making.{info_of}
-use Rattle.load_model.specs.Memory.{wrap}
-use Rattle.load_model.specs.Linking.{IsPointer, places, ArePointers, linked_data}
+use Rattle.macho_image.specs.Places.{wrap}
 use Rattle.load_model.specs.Mapped.{three_mappings}
-use Rattle.load_model.proofs.ChainLaws.{length-info, info_is}
-use Rattle.load_model.proofs.PointerLaws.{ArePages, slid_pointer, pointers_set, slid_set, length-linked_data, slid_linked, pointer_byte, other_byte}
+use Rattle.slide_chain.specs.Linked.{raised}
+use Rattle.slide_chain.proofs.LinkedLaws.{raised-inside, length-linked_data, slid-linked_data, edit-byte, other-byte}
+use Rattle.slide_chain.proofs.SixteenLaws.{few_extras, sixteen_accepted}
+use Rattle.slide_chain.proofs.SizeLaws.{info_size-made, info_is}
 use Rattle.load_model.proofs.MappedLaws.{IsThree, slid_data, slid_cache}
 use Rattle.cache_build.specs.Places.{slide_place, slide_size, linkedit_size, span_of}
 use Rattle.cache_build.specs.Head.{entry_of, head_of}
 use Rattle.cache_build.specs.Cache.{headers_of, all_pages, slide_bytes, tail_of, cache_from, cache_of}
 use Rattle.cache_build.specs.Fits.{CanAssemble}
-use Rattle.cache_build.specs.Pointers.{pointers_of}
+use Rattle.cache_build.specs.Pointers.{pointers_of, places, with_pointers}
+use Rattle.cache_build.specs.Setting.{ArePointers}
 use Rattle.cache_build.proofs.HeadFacts.{IsReady, assembles, head_fits, head_writable}
 use Rattle.cache_build.proofs.WholePages.{length-padded}
 
@@ -81,6 +83,10 @@ own_pointers is = pointers_of (layout_of is) is
 abbrev pub own_data : List Img → List ℕ
 own_data is = mapping_part Writable (set_pages is) is
 
+-- the data with the pointers set under a slide
+abbrev pub slid_pointers : List Img → ℕ → List ℕ
+slid_pointers is slide = put_all (map (raised slide (places (own_pointers is))) (own_pointers is)) (own_data is)
+
 abbrev pub data_and_behind : List Img → List ℕ → List ℕ
 data_and_behind is area = area ++ (mapping_part Fixed (set_pages is) is ++ tail_of (layout_of is) (own_pointers is))
 
@@ -88,12 +94,12 @@ data_and_behind is area = area ++ (mapping_part Fixed (set_pages is) is ++ tail_
 abbrev pub behind_head : List Img → List ℕ
 behind_head is =
     replicate ((layout_of is).text.at - length (head_bytes (own_head is))) 0
-    ++ (mapping_part Text (set_pages is) is ++ data_and_behind is (linked_data (own_pointers is) (own_data is)))
+    ++ (mapping_part Text (set_pages is) is ++ data_and_behind is (with_pointers (own_pointers is) (own_data is)))
 
 pub head_first : (is : List Img) → cache_of is ≡ head_bytes (own_head is) ++ behind_head is
 unfolding cache_from
 head_first is =
-    padded_head (layout_of is).text.at (own_head is) (mapping_part Text (set_pages is) is ++ data_and_behind is (linked_data (own_pointers is) (own_data is)))
+    padded_head (layout_of is).text.at (own_head is) (mapping_part Text (set_pages is) is ++ data_and_behind is (with_pointers (own_pointers is) (own_data is)))
 
 -- ---- what the head says
 
@@ -142,6 +148,7 @@ slide_there is ready =
 pub record IsLinked (is : List Img) : Type 0 where
   pub whole : AreWholePages (set_pages is) is
   pub pointers : ArePointers (layout_of is).writable.len (own_pointers is)
+  pub wide : (e : Edit) → IsAmong e (own_pointers is) → e.width ≡ 8
   pub bytes : (n : ℕ) → get_or (own_data is) n 0 < 256
 
 -- what stands before the data
@@ -156,21 +163,27 @@ abbrev pub plain_of : List Img → List ℕ
 plain_of is = cache_around is (own_data is)
 
 abbrev pub slid_of : List Img → ℕ → List ℕ
-slid_of is slide = cache_around is (put_all (map (slid_pointer slide) (own_pointers is)) (own_data is))
+slid_of is slide = cache_around is (slid_pointers is slide)
 
-cache_parts : (is : List Img) → cache_of is ≡ cache_around is (linked_data (own_pointers is) (own_data is))
+cache_parts : (is : List Img) → cache_of is ≡ cache_around is (with_pointers (own_pointers is) (own_data is))
 unfolding cache_from
 cache_parts is =
-    sym (append_assoc (padded (layout_of is).text.at (head_bytes (own_head is))) (mapping_part Text (set_pages is) is) (data_and_behind is (linked_data (own_pointers is) (own_data is))))
+    sym (append_assoc (padded (layout_of is).text.at (head_bytes (own_head is))) (mapping_part Text (set_pages is) is) (data_and_behind is (with_pointers (own_pointers is) (own_data is))))
 
 pub plain_joined : (is : List Img) → joined (padded (layout_of is).text.at (head_bytes (own_head is))) (set_pages is) is (tail_of (layout_of is) (own_pointers is)) ≡ plain_of is
 plain_joined is = sym (append_assoc (padded (layout_of is).text.at (head_bytes (own_head is))) (mapping_part Text (set_pages is) is) (data_and_behind is (own_data is)))
+
+length-slide : (is : List Img) → IsLinked is → length (slide_bytes (layout_of is) (own_pointers is)) ≡ slide_size (layout_of is)
+length-slide is linked =
+    let size : ℕ = (layout_of is).writable.len in
+    let ws : List ℕ = places (own_pointers is) in
+    info_size-made 16 size ws ∙ ap (λ (n : ℕ). 40 + 2 * (size / 4096 + n)) (few_extras size ws linked.pointers.words) ∙ omega arith
 
 length-tail : (is : List Img) → IsLinked is → length (tail_of (layout_of is) (own_pointers is)) ≡ paged (slide_size (layout_of is)) + paged linkedit_size
 unfolding paged
 length-tail is linked =
     let l : Laid = layout_of is in
-    let slide : length (slide_bytes l (own_pointers is)) ≡ slide_size l = length-info l.writable.len (places (own_pointers is)) linked.pointers.words in
+    let slide : length (slide_bytes l (own_pointers is)) ≡ slide_size l = length-slide is linked in
     let room : length (padded (paged (slide_size l)) (slide_bytes l (own_pointers is))) ≡ paged (slide_size l) = length-padded (paged (slide_size l)) (slide_bytes l (own_pointers is)) (omega (arith, slide, paged-covers (slide_size l))) in
     length-append (padded (paged (slide_size l)) (slide_bytes l (own_pointers is))) (padded (paged linkedit_size) (0 ∷ [])) ∙ omega (arith, room, length-padded (paged linkedit_size) (0 ∷ []) (omega arith))
 
@@ -185,8 +198,9 @@ pub length-data : (is : List Img) → IsLinked is → length (own_data is) ≡ (
 unfolding layout_of
 length-data is linked = length-mapping_part Writable (set_pages is) is linked.whole
 
-pub data_pages : (is : List Img) → IsReady is → IsLinked is → ArePages (layout_of is).writable.len (own_data is)
-data_pages is ready linked = record { whole = (assembles is ready).pages; long = length-data is linked; bytes = linked.bytes }
+-- the pointers lie in the data
+data_inside : (is : List Img) → IsLinked is → AllInside (length (own_data is)) (own_pointers is)
+data_inside is linked = let es : List Edit = own_pointers is in subst (λ (n : ℕ). AllInside n es) (sym (length-data is linked)) linked.pointers.inside
 
 length-around : (is : List Img) (area : List ℕ) → IsReady is → IsLinked is → length area ≡ (layout_of is).writable.len → length (cache_around is area) ≡ span_of (layout_of is)
 unfolding layout_of
@@ -198,22 +212,21 @@ length-around is area ready linked long =
     length-append (before_data is) (data_and_behind is area)
     ∙ omega (arith, length-before is ready linked, length-append area (f ++ tail), length-append f tail, long, length-tail is linked, length-mapping_part Fixed (set_pages is) is linked.whole, turn.fixed)
 
-linked_long : (is : List Img) → IsReady is → IsLinked is → length (linked_data (own_pointers is) (own_data is)) ≡ (layout_of is).writable.len
-linked_long is ready linked = length-linked_data (layout_of is).writable.len (own_pointers is) (own_data is) (data_pages is ready linked) linked.pointers ∙ length-data is linked
+linked_long : (is : List Img) → IsReady is → IsLinked is → length (with_pointers (own_pointers is) (own_data is)) ≡ (layout_of is).writable.len
+linked_long is ready linked = length-linked_data 16 (layout_of is).writable.len (places (own_pointers is)) (own_pointers is) (own_data is) linked.pointers (length-data is linked) ∙ length-data is linked
 
 pub long_is : (is : List Img) → IsReady is → IsLinked is → length (cache_of is) ≡ span_of (layout_of is)
 long_is is ready linked =
-    ap (λ (c : List ℕ). length c) (cache_parts is) ∙ length-around is (linked_data (own_pointers is) (own_data is)) ready linked (linked_long is ready linked)
+    ap (λ (c : List ℕ). length c) (cache_parts is) ∙ length-around is (with_pointers (own_pointers is) (own_data is)) ready linked (linked_long is ready linked)
 
-slid_long : (is : List Img) → IsReady is → IsLinked is → (slide : ℕ) → length (put_all (map (slid_pointer slide) (own_pointers is)) (own_data is)) ≡ (layout_of is).writable.len
+slid_long : (is : List Img) → IsReady is → IsLinked is → (slide : ℕ) → length (slid_pointers is slide) ≡ (layout_of is).writable.len
 slid_long is ready linked slide =
-    let len : ℕ = (layout_of is).writable.len in
-    let inside : AllInside len (map (slid_pointer slide) (own_pointers is)) = (slid_set slide len (own_pointers is) (assembles is ready).pages linked.pointers).inside in
-    length-put_all (map (slid_pointer slide) (own_pointers is)) (own_data is) (subst (λ (n : ℕ). AllInside n (map (slid_pointer slide) (own_pointers is))) (sym (length-data is linked)) inside)
+    let es : List Edit = own_pointers is in
+    length-put_all (map (raised slide (places (own_pointers is))) (own_pointers is)) (own_data is) (raised-inside slide (length (own_data is)) (places es) es (data_inside is linked))
     ∙ length-data is linked
 
 pub length-slid_of : (is : List Img) → IsReady is → IsLinked is → (slide : ℕ) → length (slid_of is slide) ≡ span_of (layout_of is)
-length-slid_of is ready linked slide = length-around is (put_all (map (slid_pointer slide) (own_pointers is)) (own_data is)) ready linked (slid_long is ready linked slide)
+length-slid_of is ready linked slide = length-around is (slid_pointers is slide) ready linked (slid_long is ready linked slide)
 
 -- three parts, of which the middle one ends where the last one begins
 take_first : (a : ℕ) (front rest : List ℕ) → length front ≡ a → take a (front ++ rest) ≡ front
@@ -249,9 +262,9 @@ length-before_tail is area ready linked long =
 info_there : (is : List Img) → IsReady is → IsLinked is → info_read (slide_info_bytes (cache_of is)) ≡ info_of 16 (layout_of is).writable.len (places (own_pointers is))
 info_there is ready linked =
     let l : Laid = layout_of is in
-    let area : List ℕ = linked_data (own_pointers is) (own_data is) in
+    let area : List ℕ = with_pointers (own_pointers is) (own_data is) in
     let bytes : List ℕ = slide_bytes l (own_pointers is) in
-    let slide : length (slide_bytes l (own_pointers is)) ≡ slide_size l = length-info l.writable.len (places (own_pointers is)) linked.pointers.words in
+    let slide : length (slide_bytes l (own_pointers is)) ≡ slide_size l = length-slide is linked in
     let zeros : List ℕ = replicate (paged (slide_size l) - length bytes) 0 in
     let behind : List ℕ = padded (paged linkedit_size) (0 ∷ []) in
     let can : CanAssemble l is = assembles is ready in
@@ -260,21 +273,22 @@ info_there is ready linked =
     ∙ (ap (λ (c : List ℕ). take (slide_size l) c) (drop_first (slide_place l) (before_tail is area) (tail_of l (own_pointers is)) (length-before_tail is area ready linked (linked_long is ready linked)))
     ∙ (ap (λ (c : List ℕ). take (slide_size l) c) (append_assoc bytes zeros behind)
     ∙ take_first (slide_size l) bytes (zeros ++ behind) slide))))
-    ∙ info_is l.writable.len (places (own_pointers is)) (omega (arith, can.writable, can.span)) linked.pointers.words
+    ∙ info_is 16 l.writable.len (places (own_pointers is)) (omega arith) (omega (arith, can.writable, can.span)) (sixteen_accepted l.writable.len (places (own_pointers is)) linked.pointers.words)
 
 -- the data of the cache, slid
 slid_is : (is : List Img) → IsReady is → IsLinked is → (slide : ℕ)
-    → slid_data (cache_of is) (layout_of is).writable.at (layout_of is).writable.len slide ≡ put_all (map (slid_pointer slide) (own_pointers is)) (own_data is)
+    → slid_data (cache_of is) (layout_of is).writable.at (layout_of is).writable.len slide ≡ slid_pointers is slide
 slid_is is ready linked slide =
     let l : Laid = layout_of is in
-    let area : List ℕ = linked_data (own_pointers is) (own_data is) in
+    let area : List ℕ = with_pointers (own_pointers is) (own_data is) in
     let behind : List ℕ = mapping_part Fixed (set_pages is) is ++ tail_of l (own_pointers is) in
     let there : take l.writable.len (drop l.writable.at (cache_of is)) ≡ area =
     ap (λ (c : List ℕ). take l.writable.len (drop l.writable.at c)) (cache_parts is)
     ∙ (ap (λ (c : List ℕ). take l.writable.len c) (drop_first l.writable.at (before_data is) (data_and_behind is area) (length-before is ready linked))
     ∙ take_first l.writable.len area behind (linked_long is ready linked)) in
     ap₂ (λ (s : Slide) (b : List ℕ). slid_area s slide b) (info_there is ready linked) there
-    ∙ slid_linked l.writable.len slide (own_pointers is) (own_data is) (data_pages is ready linked) linked.pointers
+    ∙ slid-linked_data 16 l.writable.len slide (places (own_pointers is)) (own_pointers is) (own_data is) linked.pointers linked.bytes (length-data is linked)
+    (sixteen_accepted l.writable.len (places (own_pointers is)) linked.pointers.words)
 
 abbrev pub rest_of : Laid → ℕ
 rest_of l = span_of l - (l.writable.at + l.writable.len)
@@ -298,7 +312,7 @@ pub slid_cache_is : (is : List Img) → IsReady is → IsLinked is → (slide : 
 slid_cache_is is ready linked slide =
     let l : Laid = layout_of is in
     let can : CanAssemble l is = assembles is ready in
-    let area : List ℕ = linked_data (own_pointers is) (own_data is) in
+    let area : List ℕ = with_pointers (own_pointers is) (own_data is) in
     let behind : List ℕ = mapping_part Fixed (set_pages is) is ++ tail_of l (own_pointers is) in
     let first : take l.writable.at (cache_of is) ≡ before_data is =
     ap (λ (c : List ℕ). take l.writable.at c) (cache_parts is) ∙ take_first l.writable.at (before_data is) (data_and_behind is area) (length-before is ready linked) in
@@ -339,35 +353,40 @@ pub free_byte : (is : List Img) → IsReady is → IsLinked is → (slide f : �
 free_byte is ready linked slide f free =
     let l : Laid = layout_of is in
     let long : length (before_data is) ≡ l.writable.at = length-before is ready linked in
-    part_byte (before_data is) (put_all (map (slid_pointer slide) (own_pointers is)) (own_data is)) (own_data is) (mapping_part Fixed (set_pages is) is ++ tail_of l (own_pointers is)) f
+    part_byte (before_data is) (slid_pointers is slide) (own_data is) (mapping_part Fixed (set_pages is) is ++ tail_of l (own_pointers is)) f
     (slid_long is ready linked slide ∙ sym (length-data is linked))
     (λ from within.
     let apart : ApartFrom (f - length (before_data is)) 1 (own_pointers is) = subst (λ (n : ℕ). ApartFrom (f - n) 1 (own_pointers is)) (sym long) (free (omega (arith, from, long))) in
-    other_byte l.writable.len slide (f - length (before_data is)) (own_pointers is) (own_data is) (data_pages is ready linked) linked.pointers apart)
+    other-byte slide (f - length (before_data is)) (places (own_pointers is)) (own_pointers is) (own_data is) (data_inside is linked) apart)
 
 -- a pointer stands in the data
-inside_at : (n : ℕ) (es : List Edit) (e : Edit) → AllInside n es → All IsPointer es → IsAmong e es → e.at + 8 ≤ n
-inside_at n [] e inside values among = absurd among
-inside_at n (d ∷ es) e inside values among = elim among [
-  | inl is ↦
-      let first : IsPointer d = All-head IsPointer d es values in
-      let at : e.at ≡ d.at = ap (λ (x : Edit). x.at) is in
-      omega (arith, inside.0, first.width, at)
-  | inr later ↦ inside_at n es e inside.1 (All-tail IsPointer d es values) later
-]
+inside_at : (n : ℕ) (es : List Edit) (e : Edit) → AllInside n es → IsAmong e es → e.at + e.width ≤ n
+inside_at n [] e inside among = absurd among
+inside_at n (d ∷ es) e inside (inl is) = subst (λ (x : Edit). x.at + x.width ≤ n) (sym is) inside.0
+inside_at n (d ∷ es) e inside (inr later) = inside_at n es e inside.1 later
 
-pub pointer_inside : (is : List Img) → IsReady is → IsLinked is → (e : Edit) → IsAmong e (own_pointers is) → e.at + 8 ≤ (layout_of is).writable.len
-pointer_inside is ready linked e among =
-    inside_at (layout_of is).writable.len (own_pointers is) e (pointers_set (layout_of is).writable.len (own_pointers is) (assembles is ready).pages linked.pointers).inside linked.pointers.values among
+pub pointer_inside : (is : List Img) → IsLinked is → (e : Edit) → IsAmong e (own_pointers is) → e.at + 8 ≤ (layout_of is).writable.len
+pointer_inside is linked e among = omega (arith, inside_at (layout_of is).writable.len (own_pointers is) e linked.pointers.inside among, linked.wide e among)
 
--- a pointer has its number, slid
+-- and is a word of a chain
+place_among : (e : Edit) (es : List Edit) → IsAmong e es → list_any (nat_eq e.at) (places es) ≡ true
+place_among e [] among = absurd among
+place_among e (d ∷ es) (inl is) = or_left (nat_eq e.at d.at) (list_any (nat_eq e.at) (places es)) (eq-eqb e.at d.at (ap (λ (x : Edit). x.at) is))
+place_among e (d ∷ es) (inr later) = or_right (nat_eq e.at d.at) (list_any (nat_eq e.at) (places es)) (place_among e es later)
+
+-- so it has its number, slid
 pub slid_byte : (is : List Img) → IsReady is → IsLinked is → (slide k : ℕ) (e : Edit) → IsAmong e (own_pointers is) → k < 8
     → get_or (slid_of is slide) ((layout_of is).writable.at + (e.at + k)) 0 ≡ get_or (little_bytes 8 (wrap (e.value + slide))) k 0
 slid_byte is ready linked slide k e among lt =
     let l : Laid = layout_of is in
-    let p : List ℕ = put_all (map (slid_pointer slide) (own_pointers is)) (own_data is) in
-    let inside : e.at + 8 ≤ l.writable.len = pointer_inside is ready linked e among in
+    let es : List Edit = own_pointers is in
+    let p : List ℕ = slid_pointers is slide in
+    let inside : e.at + 8 ≤ l.writable.len = pointer_inside is linked e among in
+    let wide : e.width ≡ 8 = linked.wide e among in
+    let value : (raised slide (places (own_pointers is)) e).value ≡ wrap (e.value + slide) =
+    cond-true (list_any (nat_eq e.at) (places es)) ((e.value + slide) % 2 ^ 64) e.value (place_among e es among) in
     get_or-append_right (before_data is) (data_and_behind is p) l.writable.at (l.writable.at + (e.at + k)) 0 (length-before is ready linked) (omega arith)
     ∙ (ap (λ (n : ℕ). get_or (data_and_behind is p) n 0) (omega arith)
     ∙ (get_or-append p (mapping_part Fixed (set_pages is) is ++ tail_of l (own_pointers is)) 0 (e.at + k) (omega (arith, slid_long is ready linked slide, inside, lt))
-    ∙ pointer_byte l.writable.len slide k e (own_pointers is) (own_data is) (data_pages is ready linked) linked.pointers among lt))
+    ∙ (edit-byte slide k (places es) e es (own_data is) (data_inside is linked) linked.pointers.apart among (omega (arith, lt, wide))
+    ∙ ap₂ (λ (w v : ℕ). get_or (little_bytes w v) k 0) wide value)))

@@ -1,8 +1,8 @@
 -- The images that a cache holds.
-use Rattle.std.proofs.Common.{◌≡◌, ◌≤◌, ◌<◌, ℕ, zero, suc, ◌+◌, ◌-◌, ◌%◌, ◌^◌, Some, List, [], ◌∷◌, ◌++◌, take, drop, length, map, get_or, refl, sym, ap, ap₂, ◌∙◌, arith, false}
+use Rattle.std.proofs.Common.{◌≡◌, ◌≤◌, ◌<◌, ℕ, zero, suc, ◌+◌, ◌-◌, ◌%◌, ◌^◌, Some, List, [], ◌∷◌, ◌++◌, take, drop, length, get_or, refl, sym, ap, ap₂, ◌∙◌, arith, false}
 use Rattle.std.specs.Prelude.{slice_index_or}
 use Rattle.std.proofs.lemmas.List.{length-drop, drop-append-le, take-append-le}
-use Rattle.dsc_base.specs.Edits.{put_all}
+use Rattle.dsc_base.specs.declared.edits.Edit.{Edit}
 use Rattle.dsc_base.specs.Region.{region_start, paged}
 use Rattle.macho_image.specs.declared.form.Form.TheVariants.{Standalone, Cached}
 use Rattle.macho_image.specs.declared.place.Moved.{Moved}
@@ -22,11 +22,10 @@ use Rattle.cache_layout.specs.declared.mapping.Mapping.TheVariants.{Text, Writab
 use Rattle.cache_layout.proofs.PlaceLaws.{are_in_turn, are_within}
 use Rattle.cache_layout.proofs.SoundLaws.{sound_linkedit, sound_protection, protection, mapped_protection}
 use Rattle.cache_layout.proofs.RoomLaws.{paged-covers}
-use Rattle.load_model.specs.Memory.{wrap, above}
+use Rattle.macho_image.specs.Places.{wrap, above}
 use Rattle.load_model.specs.Mapped.{flat, mapped, cached_image}
 use Rattle.load_model.proofs.LoadingLaws.{IsLow}
 use Rattle.load_model.proofs.MappedLaws.{flat_three, mapped_cell}
-use Rattle.load_model.proofs.PointerLaws.{slid_pointer}
 use Rattle.cache_build.specs.Places.{linkedit_place, span_of}
 use Rattle.cache_build.specs.Cache.{spots_at, header_of, pages_of, cache_of}
 use Rattle.cache_build.specs.Fits.{CanAssemble}
@@ -34,8 +33,8 @@ use Rattle.cache_build.proofs.FitsLaws.{no_segment, two_segments}
 use Rattle.cache_build.proofs.HeadFacts.{IsReady, assembles, header_move}
 use Rattle.cache_build.proofs.SegmentPages.{length-pages_of, page_header, stands_front}
 use Rattle.cache_build.proofs.PlacedSets.{placed_image}
-use Rattle.cache_build.proofs.CacheLaws.{own_pointers, own_data, data_and_behind, before_data, plain_of, slid_of, IsLinked, length-before, address_is, three_is, slid_cache_is, length-slid_of, rest_of}
-use Rattle.cache_build.proofs.SetPointers.{sound_at}
+use Rattle.cache_build.proofs.CacheLaws.{own_data, slid_pointers, data_and_behind, before_data, plain_of, slid_of, IsLinked, length-before, address_is, three_is, slid_cache_is, length-slid_of, rest_of}
+use Rattle.cache_build.proofs.SetPointers.{sound_at, from_among}
 use Rattle.cache_build.proofs.WholePages.{low_segment, header_fits, pages_whole}
 use Rattle.cache_build.proofs.CachedSegments.{segment_stands}
 use Rattle.cache_build.proofs.Protections.{first_protection}
@@ -98,7 +97,7 @@ slice_same n m front x y le =
 
 -- the pointers of the set stand in the data
 pub links_in : (is : List Img) → IsReady is → IsLinked is
-links_in is ready = record { whole = pages_whole is ready; pointers = pointers_are is ready; bytes = data_bytes is ready }
+links_in is ready = record { whole = pages_whole is ready; pointers = pointers_are is ready; wide = λ e there. ap (λ (x : Edit). x.width) (from_among is e there).same; bytes = data_bytes is ready }
 
 header_stands : (is : List Img) → IsReady is → (slide k : ℕ) (i : Img) → k < length is → i ≡ get_or is k i
     → take (length (header_of (layout_of is) k i)) (drop (move_at (layout_of is) k 0).file (slid_of is slide)) ≡ header_of (layout_of is) k i
@@ -111,7 +110,7 @@ header_stands is ready slide k i lt at =
     let pages : length (pages_of (header_of (layout_of is) k i) 0 (get_or i.segments 0 no_segment)) ≡ paged (get_or i.segments 0 no_segment).vmsize = length-pages_of header 0 s low (header_fits is ready k 0 i s there) in
     let fits : length (header_of (layout_of is) k i) ≤ paged (get_or i.segments 0 no_segment).vmsize = omega (arith, room, low.bytes, low.within, paged-covers s.vmsize) in
     let own = text_within is ready k i lt at in
-    slice_same (length header) (move_at (layout_of is) k 0).file (before_data is) (data_and_behind is (put_all (map (slid_pointer slide) (own_pointers is)) (own_data is))) (data_and_behind is (own_data is))
+    slice_same (length header) (move_at (layout_of is) k 0).file (before_data is) (data_and_behind is (slid_pointers is slide)) (data_and_behind is (own_data is))
     (omega (arith, length-before is ready (links_in is ready), own, fits))
     ∙ stands_front (plain_of is) (pages_of header 0 s) header (move_at (layout_of is) k 0).file (segment_stands is ready k 0 i s there (first_owned is ready k i lt at))
     (omega (arith, fits, pages)) (page_header header s)

@@ -7,6 +7,7 @@ pub mod CacheLaws
 pub mod CachedImages
 pub mod CachedSegments
 pub mod DataBytes
+pub mod ExportLaws
 pub mod FitsLaws
 pub mod HeadFacts
 pub mod HeadLaws
@@ -26,5 +27,6 @@ pub mod SegmentPages
 pub mod SetPointerLaws
 pub mod SetPointers
 pub mod SpanLaws
+pub mod TargetLaws
 pub mod Theorem
 pub mod WholePages

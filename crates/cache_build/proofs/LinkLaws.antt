@@ -1,9 +1,7 @@
 -- Data whose pointers are set and linked.
-use Rattle.std.proofs.Common.{Option, Some, None, nat_lt, ◌≡◌, ◌≤◌, ◌<◌, ◌+◌, ◌-◌, ◌*◌, ◌/◌, ◌%◌, ◌^◌, ℕ, List, [], ◌∷◌, ◌++◌, take, drop, length, refl, sym, ap, ap₂, subst, ◌∙◌, arith, length-append}
+use Rattle.std.proofs.Common.{Option, Some, None, ◌≡◌, ◌≤◌, ◌<◌, ◌+◌, ◌-◌, ◌*◌, ◌/◌, ◌%◌, ◌^◌, ℕ, List, [], ◌∷◌, ◌++◌, take, drop, length, sym, ap, ap₂, subst, ◌∙◌, arith, length-append}
 use Rattle.std.specs.Prelude.{bit_and}
-use Rattle.std.specs.List.{All}
 use Rattle.std.proofs.lemmas.List.{append-nil, take_all, drop_all, take_rest, length-drop}
-use Rattle.std.proofs.lemmas.List.Elements.{All-head, All-tail}
 use Rattle.std.proofs.lemmas.Nat.Bits.{and_high}
 use Rattle.std.proofs.Math.Seq.{take-append_seam, drop-append_seam}
 use borrow.Rule.Slice.PartMut.{put_mid}
@@ -12,35 +10,30 @@ use Rattle.dsc_base.specs.declared.fault.Fault.{Fault}
 use Rattle.dsc_base.specs.declared.fault.Fault.TheVariants.{Broken, Memory}
 use Rattle.dsc_base.specs.declared.fault.SetFault.{SetFault}
 use Rattle.dsc_base.specs.declared.fault.SetFault.TheVariants.{Memory as SetMemory}
-use Rattle.dsc_base.specs.Numbers.{number_at}
-use Rattle.dsc_base.specs.Edits.{AllInside, Holds, put_all, change_all}
-use Rattle.dsc_base.proofs.EditLaws.{length-put_all, Holds-put_all}
+use Rattle.dsc_base.specs.Edits.{AllInside, AllApart, AllFit, put_all, change_all}
+use Rattle.dsc_base.proofs.EditLaws.{length-put_all}
 use Rattle.macho_image.specs.Records.{Img}
 use Rattle.cache_layout.specs.Layouts.{Laid}
 use Rattle.cache_layout.specs.declared.mapping.Mapping.TheVariants.{Writable}
 use Rattle.cache_layout.specs.Parts.{mapping_part}
 use Rattle.slide_chain.specs.Chains.{Slide}
-use Rattle.slide_chain.specs.Making.{info_of, linking, AreWords, AllBelow, AreOutside, extras_over, extras_site}
-use Rattle.load_model.specs.Linking.{IsPointer, places, ArePointers, linked_data}
-use Rattle.load_model.proofs.ChainLaws.{few_extras, length-starts}
-use Rattle.load_model.proofs.PointerLaws.{AreSet, pointers_set}
+use Rattle.slide_chain.specs.Making.{info_of, linking, AreWords, AllBelow, AreOutside, extras_site}
+use Rattle.slide_chain.specs.Linked.{HasPointer, HavePointers}
+use Rattle.slide_chain.proofs.LinkedLaws.{pointer-number, mask-made}
+use Rattle.slide_chain.proofs.RefusedLaws.{few_accepted}
+use Rattle.slide_chain.proofs.SixteenLaws.{few_extras}
+use Rattle.slide_chain.proofs.SizeLaws.{length-starts}
 use Rattle.slide_chain.specs.Info.{info_bytes}
-use Rattle.dsc_base.specs.Refusals.{broken, in_set, IsRefusal}
+use Rattle.dsc_base.specs.Refusals.{in_set, IsRefusal}
 use Rattle.dsc_base.specs.declared.fault.Site.{Site}
-use Rattle.dsc_base.specs.declared.rule.Rule.TheVariants.{TooManyExtras}
-use Rattle.std.proofs.lemmas.Bool.{cond-false, le-ltb}
 use Rattle.cache_build.specs.Cache.{all_pages, headers_of}
-use Rattle.cache_build.specs.Pointers.{pointers_of}
+use Rattle.cache_build.specs.Pointers.{pointers_of, places, with_pointers}
 use Rattle.cache_build.specs.Fits.{HasMoves, CanAssemble}
-use Rattle.cache_build.specs.Setting.{CanChain, CanLink}
+use Rattle.cache_build.specs.Setting.{ArePointers, CanChain, CanLink}
 
 -- there are never too many extras, so only memory may be wanting
 no_extras : (size : ℕ) (ws : List ℕ) → AreWords 0 ws → extras_site 16 size ws ≡ None
-unfolding extras_over
-no_extras size ws words =
-    let count : ℕ = length (info_of 16 size ws).extras in
-    ap (λ (o : Option ℕ). broken TooManyExtras o)
-    (cond-false (nat_lt 0x4000 (length (info_of 16 size ws).extras)) (Some (length (info_of 16 size ws).extras)) None (le-ltb 0x4000 (length (info_of 16 size ws).extras) (let none : length (info_of 16 size ws).extras ≡ 0 = few_extras size ws words in omega (arith, none))))
+no_extras size ws words = few_accepted 16 size ws (omega (arith, few_extras size ws words))
 
 pub only_memory : (size : ℕ) (ws : List ℕ) (fault : Fault) (answer : SetFault) → AreWords 0 ws → IsRefusal (extras_site 16 size ws) fault → answer ≡ in_set 0 fault → answer ≡ SetMemory
 only_memory size ws (Broken site) answer words cause is = absurd (none (sym (no_extras size ws words) ∙ cause))
@@ -49,54 +42,39 @@ only_memory size ws (Broken site) answer words cause is = absurd (none (sym (no_
     none e = cc
 only_memory size ws Memory answer words cause is = is
 
--- the mask of what is made
-mask_is : (size : ℕ) (ws : List ℕ) → (info_of 16 size ws).mask ≡ (2 ^ 16 - 1) * 2 ^ 48
-unfolding info_of
-mask_is size ws = refl
-
-pub outside_mask : (s : Slide) (size : ℕ) (area ws : List ℕ) → s ≡ info_of 16 size ws → AreOutside ((2 ^ 16 - 1) * 2 ^ 48) area ws → AreOutside s.mask area ws
-outside_mask s size area ws made outside = subst (λ (mask : ℕ). AreOutside mask area ws) (sym (ap (λ (t : Slide). t.mask) made ∙ mask_is size ws)) outside
-
 pub limit_is : (s : Slide) (size : ℕ) (area ws : List ℕ) → s ≡ info_of 16 size ws → change_all (linking (s.mask / 2 ^ 48) ws) area ≡ change_all (linking 0xFFFF ws) area
-limit_is s size area ws made =
-    ap (λ (mask : ℕ). change_all (linking (mask / 2 ^ 48) ws) area) (ap (λ (t : Slide). t.mask) made ∙ mask_is size ws)
+limit_is s size area ws made = ap (λ (mask : ℕ). change_all (linking (mask / 2 ^ 48) ws) area) (mask-made s 16 size ws made)
 
 pub few_starts : (s : Slide) (size : ℕ) (ws : List ℕ) → s ≡ info_of 16 size ws → size ≤ 0x20000000 → length s.starts < 2 ^ 30
 few_starts s size ws made room =
     let long : length s.starts ≡ size / 4096 = ap (λ (t : Slide). length t.starts) made ∙ length-starts 16 size ws in
     omega (arith, long, room)
 
--- pointers lie inside the data, and once they are set their words can be linked
-pub pointers_room : (size : ℕ) (es : List Edit) → size % 4096 ≡ 0 → ArePointers size es → AllInside size es
-pointers_room size es whole pointers = (pointers_set size es whole pointers).inside
-
-held : (b : List ℕ) (e : Edit) → IsPointer e → number_at e.width b e.at ≡ e.value → number_at 8 b e.at ≡ e.value
-held b e pointer is = ap (λ (w : ℕ). number_at w b e.at) (sym pointer.width) ∙ is
-
-free_bits : (b : List ℕ) (es : List Edit) → Holds b es → All IsPointer es → AreOutside ((2 ^ 16 - 1) * 2 ^ 48) b (places es)
-free_bits b [] holds values = tt
-free_bits b (e ∷ es) holds values =
-    let first : IsPointer e = All-head IsPointer e es values in
-    let high : bit_and e.value ((2 ^ 16 - 1) * 2 ^ 48) ≡ e.value / 2 ^ 48 % 2 ^ 16 * 2 ^ 48 = and_high e.value 16 48 in (
-      ap (λ (v : ℕ). bit_and v ((2 ^ 16 - 1) * 2 ^ 48)) (held b e first holds.0) ∙ omega (arith, high, first.small),
-      free_bits b es holds.1 (All-tail IsPointer e es values),
+-- the bits from 48 up are free where pointers are set
+free_bits : (es : List Edit) (b ws : List ℕ) → AllInside (length b) es → AllApart es → AllFit es → HavePointers es ws → AreOutside ((2 ^ 16 - 1) * 2 ^ 48) (put_all es b) ws
+free_bits es b [] inside apart fit pointers = tt
+free_bits es b (a ∷ ws) inside apart fit pointers =
+    let p : HasPointer es a = pointers.0 in
+    let high : bit_and p.edit.value ((2 ^ 16 - 1) * 2 ^ 48) ≡ p.edit.value / 2 ^ 48 % 2 ^ 16 * 2 ^ 48 = and_high p.edit.value 16 48 in (
+      ap (λ (v : ℕ). bit_and v ((2 ^ 16 - 1) * 2 ^ 48)) (pointer-number es b a inside apart fit p) ∙ omega (arith, high, p.small),
+      free_bits es b ws inside apart fit pointers.1,
     )
 
-pub pointers_chain : (area set words : List ℕ) (es : List Edit) → length area % 4096 ≡ 0 → length area ≤ 0x20000000 → ArePointers (length area) es → set ≡ put_all es area → words ≡ places es → CanChain set words
-pointers_chain area set words es whole room pointers is are =
-    let fit : AreSet (length area) es = pointers_set (length area) es whole pointers in
-    let long : length (put_all es area) ≡ length area = length-put_all es area fit.inside in
+-- once pointers are set their words can be linked
+pub pointers_chain : (area set words : List ℕ) (es : List Edit) → length area ≤ 0x20000000 → ArePointers (length area) es → set ≡ put_all es area → words ≡ places es → CanChain set words
+pointers_chain area set words es room pointers is are =
+    let long : length (put_all es area) ≡ length area = length-put_all es area pointers.inside in
     let chain : CanChain (put_all es area) (places es) = record {
-      pages = ap (λ (n : ℕ). n % 4096) long ∙ whole;
+      pages = ap (λ (n : ℕ). n % 4096) long ∙ pointers.pages;
       room = omega (arith, long, room);
       words = pointers.words;
       below = subst (λ (n : ℕ). AllBelow n (places es)) (sym long) pointers.below;
-      outside = free_bits (put_all es area) es (Holds-put_all es area fit.inside fit.apart fit.fit) pointers.values;
+      outside = free_bits es area (places es) pointers.inside pointers.apart pointers.fit pointers.pointers;
     } in
     subst (λ (l : List ℕ). CanChain l words) (sym is) (subst (λ (l : List ℕ). CanChain (put_all es area) l) (sym are) chain)
 
 -- what was set and linked
-pub data_linked : (area set area' words : List ℕ) (es : List Edit) → set ≡ put_all es area → words ≡ places es → area' ≡ change_all (linking 0xFFFF words) set → area' ≡ linked_data es area
+pub data_linked : (area set area' words : List ℕ) (es : List Edit) → set ≡ put_all es area → words ≡ places es → area' ≡ change_all (linking 0xFFFF words) set → area' ≡ with_pointers es area
 data_linked area set area' words es is are linked = linked ∙ ap₂ (λ (ws b : List ℕ). change_all (linking 0xFFFF ws) b) are is
 
 pub info_told : (size size' : ℕ) (words words' info : List ℕ) → size ≡ size' → words ≡ words' → info ≡ info_bytes (info_of 16 size words) → info ≡ info_bytes (info_of 16 size' words')
@@ -139,11 +117,11 @@ data_pointers l is size links long = subst (λ (n : ℕ). ArePointers n (pointer
 
 -- the cache with its data, which were appended and then linked
 pub data_appended : (l : Laid) (is : List Img) (headers : List (List ℕ)) (old all written area : List ℕ) (start len : ℕ) → CanLink l is → headers ≡ headers_of l is → all ≡ old ++ mapping_part Writable (all_pages headers is) is → start ≡ length old
-    → length all ≡ len → length area ≡ length (take (length all - start) (drop start all)) → area ≡ linked_data (pointers_of l is) (take (length all - start) (drop start all))
-    → written ≡ all → take len (put_mid start (length all - start) all area ++ drop (length (put_mid start (length all - start) all area)) written) ≡ old ++ linked_data (pointers_of l is) (mapping_part Writable (all_pages headers is) is)
+    → length all ≡ len → length area ≡ length (take (length all - start) (drop start all)) → area ≡ with_pointers (pointers_of l is) (take (length all - start) (drop start all))
+    → written ≡ all → take len (put_mid start (length all - start) all area ++ drop (length (put_mid start (length all - start) all area)) written) ≡ old ++ with_pointers (pointers_of l is) (mapping_part Writable (all_pages headers is) is)
 data_appended l is headers old all written area start len links are grown at long same linked kept =
     let part : List ℕ = mapping_part Writable (all_pages headers is) is in
     let own : take (length all - start) (drop start all) ≡ mapping_part Writable (all_pages headers is) is = behind_all old part all start grown at in
     ap (λ (w : List ℕ). take len (put_mid start (length all - start) all area ++ drop (length (put_mid start (length all - start) all area)) w)) kept
     ∙ (behind_written old part all area start len grown at long (same ∙ ap (λ (b : List ℕ). length b) own)
-    ∙ ap (λ (b : List ℕ). old ++ b) (linked ∙ ap (λ (b : List ℕ). linked_data (pointers_of l is) b) own))
+    ∙ ap (λ (b : List ℕ). old ++ b) (linked ∙ ap (λ (b : List ℕ). with_pointers (pointers_of l is) b) own))

@@ -12,8 +12,8 @@ use Rattle.macho_edit.specs.declared.spots.LinkSpots.{LinkSpots}
 use Rattle.macho_edit.specs.Placed.{places_of}
 use Rattle.macho_edit.specs.MovedImage.{seated_all, followed, moved_image}
 use Rattle.macho_edit.proofs.PlaceLaws.{place_other}
-use Rattle.load_model.specs.Memory.{above}
-use Rattle.load_model.specs.Loading.{start_in}
+use Rattle.macho_image.specs.Places.{above}
+use Rattle.macho_image.specs.Segments.{start_of}
 use Rattle.load_model.specs.Corresponds.{shape_of}
 use Rattle.load_model.proofs.LoadingLaws.{IsLow, low_at}
 use Rattle.load_model.proofs.ShapeLaws.{AreKept, AreSectionsKept, shape_kept}
@@ -168,7 +168,7 @@ moved_from image moves spots b j v got = first image.sections j got
     first (u ∷ us) (suc k) is = first us k is
 
 -- where a segment of the moved image starts
-seated_start : (b : List ℕ) (ps : List SegmentPlace) (ss : List Seg) (g : ℕ) (t : Seg) → length ps ≡ length ss → slice_get ss g ≡ Some t → start_in (slice_get (seated_all b ps ss) g) ≡ addresses_in ps g
+seated_start : (b : List ℕ) (ps : List SegmentPlace) (ss : List Seg) (g : ℕ) (t : Seg) → length ps ≡ length ss → slice_get ss g ≡ Some t → start_of (slice_get (seated_all b ps ss) g) ≡ addresses_in ps g
 seated_start b [] [] g t long got = absurd (cc)
 seated_start b [] (s ∷ ss) g t long got = absurd (omega arith)
 seated_start b (p ∷ ps) [] g t long got = absurd (cc)
@@ -182,7 +182,7 @@ length-places spots (m ∷ ms) [] long = absurd (omega arith)
 length-places spots (m ∷ ms) (s ∷ ss) long = ap suc (length-places spots ms ss (omega arith))
 
 pub moved_start : (image : Img) (moves : List Moved) (spots : LinkSpots) (b : List ℕ) (g : ℕ) (m : Moved) (t : Seg) → length moves ≡ length image.segments → slice_get moves g ≡ Some m → slice_get image.segments g ≡ Some t → is_linkedit_segment t ≡ false
-    → start_in (slice_get (moved_image image moves spots b).segments g) ≡ m.address
+    → start_of (slice_get (moved_image image moves spots b).segments g) ≡ m.address
 unfolding moved_image
 moved_start image moves spots b g m t long move got other =
     seated_start b (places_of spots moves image.segments) image.segments g t (length-places spots moves image.segments long) got

@@ -12,7 +12,7 @@ use Rattle.cache_layout.specs.Layouts.{Laid, layout_of}
 use Rattle.cache_layout.specs.Apart.{IsSegment, IsApart, move_at}
 use Rattle.cache_layout.proofs.PlaceLaws.{are_apart}
 use Rattle.cache_layout.proofs.RoomLaws.{paged-covers}
-use Rattle.load_model.specs.Pointers.{rebases_in}
+use Rattle.cache_build.specs.Pointers.{rebases_in}
 use Rattle.cache_build.proofs.HeadFacts.{IsReady}
 use Rattle.cache_build.proofs.CacheLaws.{own_pointers, IsFree}
 use Rattle.cache_build.proofs.SetPointers.{IsPointerOf, from_among, Stands, pointer_stands}

@@ -15,14 +15,15 @@ use Rattle.cache_layout.specs.Parts.{mapping_part}
 use Rattle.cache_layout.proofs.PlaceLaws.{place_of, move_at-own, range_in-is, are_in_turn}
 use Rattle.cache_layout.proofs.RoomLaws.{paged-covers, room_of-own}
 use Rattle.cache_layout.proofs.PartLaws.{length-mapping_part}
-use Rattle.load_model.specs.Linking.{ArePointers}
-use Rattle.load_model.specs.Pointers.{rebases_in}
 use Rattle.load_model.proofs.RebasedLaws.{rebase_words}
-use Rattle.cache_build.specs.Pointers.{data_start, pointer_edit, segment_pointers, image_pointers, pointers_of}
+use Rattle.split_info.specs.declared.reference.RefKind.TheVariants.{Pointer64}
+use Rattle.prebind.specs.Numbers.{number_to}
+use Rattle.cache_build.specs.Pointers.{rebases_in, cached_starts, cached_address, data_start, pointer_target, pointer_edit, segment_pointers, image_pointers, pointers_of}
 use Rattle.cache_build.specs.Cache.{headers_of, all_pages}
-use Rattle.cache_build.specs.Setting.{CanLink}
-use Rattle.cache_build.proofs.HeadFacts.{IsReady}
-use Rattle.cache_build.proofs.ReadSets.{read_sets}
+use Rattle.cache_build.specs.Setting.{AllLeadToPlaces, ArePointers, CanLink}
+use Rattle.cache_build.proofs.HeadFacts.{IsReady, assembles}
+use Rattle.cache_build.proofs.ReadSets.{Leads, read_sets, lead_sets}
+use Rattle.cache_build.proofs.TargetLaws.{target_is}
 use Rattle.cache_build.proofs.RunLaws.{AreBetween, IsPlaced, between_all, between_pointers, placed_between}
 use Rattle.cache_build.proofs.SetPointers.{Stands, LeadsInto, pointer_stands, pointer_leads}
 use Rattle.cache_build.proofs.WholePages.{pages_whole}
@@ -54,13 +55,15 @@ pointer_placed is ready k j g from i w s image got segment at place =
     let pages : (move_at (layout_of is) k g).file % 4096 ≡ 0 = subst (λ (n : ℕ). (move_at (layout_of is) k n).file % 4096 ≡ 0) at stands.pages in
     let whole : from % 4096 ≡ 0 = omega (arith, start, pages, (turn.pages Writable).0) in
     let room : room_of Writable s ≡ paged s.vmsize = room_of-own Writable s stands.mapping in
+    let number : number_to (cached_starts (layout_of is)) (cached_address (layout_of is) k g s w) (cached_starts (layout_of is) k 0) Pointer64 (pointer_target k i w) ≡ (move_at (layout_of is) k leads.leads.place.segment).address + leads.leads.place.distance =
+    leads.number (cached_address (layout_of is) k g s w) (cached_starts (layout_of is) k 0) in
     record {
       from = stands.from;
       at = omega (arith, start);
       end = omega (arith, start, room, paged-covers s.vmsize, stands.from, stands.to);
       aligned = omega (arith, start, whole, stands.segment_pages, stands.from, stands.aligned);
       in_page = omega (arith, start, whole, stands.segment_pages, stands.from, stands.in_page);
-      is = record { width = refl; some = leads.some; small = omega (arith, leads.small) };
+      is = record { width = refl; some = omega (arith, number, leads.some); small = omega (arith, number, leads.small) };
     }
 
 -- the pointers of a segment, of an image and of all images
@@ -84,11 +87,17 @@ pointers_are is ready =
     between_all (λ (k : ℕ) (i : Img). image_pointers (layout_of is) k i) (λ (i : Img). segments_room Writable i.segments) 0 is
     (λ k from i lt at behind. image_between is ready k from i (slice_get_read is (length is) k i refl lt at) (omega (arith, behind))) in
     let size : 0 + images_room Writable is ≡ (layout_of is).writable.len = omega (arith, data_size is) in
-    between_pointers (layout_of is).writable.len (pointers_of (layout_of is) is) (subst (λ (n : ℕ). AreBetween 0 n (pointers_of (layout_of is) is)) size all)
+    between_pointers (layout_of is).writable.len (pointers_of (layout_of is) is) (assembles is ready).pages (subst (λ (n : ℕ). AreBetween 0 n (pointers_of (layout_of is) is)) size all)
 
 -- the data are as long as the layout says
 pub data_long : (is : List Img) → IsReady is → length (mapping_part Writable (all_pages (headers_of (layout_of is) is) is) is) ≡ (layout_of is).writable.len
 data_long is ready = length-mapping_part Writable (all_pages (headers_of (layout_of is) is) is) is (pages_whole is ready) ∙ sym (data_size is)
 
+-- each leads to a place
+led_sets : (is : List Img) → IsReady is → AllLeadToPlaces is
+led_sets is ready k i image j w got =
+    let leads : Leads i w = lead_sets is ready.lead k j i w image got in
+    record { segment = leads.place.segment; distance = leads.place.distance; is = target_is k i w leads }
+
 pub links : (is : List Img) → IsReady is → CanLink (layout_of is) is
-links is ready = record { read = read_sets is ready.streams; size = data_long is ready; pointers = pointers_are is ready }
+links is ready = record { read = read_sets is ready.streams; led = led_sets is ready; size = data_long is ready; pointers = pointers_are is ready }

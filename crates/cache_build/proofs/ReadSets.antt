@@ -15,7 +15,7 @@ use Rattle.macho_image.specs.Records.{Seg, Img}
 use Rattle.macho_image.specs.Rules.{is_linkedit_segment}
 use Rattle.macho_image.specs.declared.place.Location.{Location}
 use Rattle.macho_image.specs.Places.{IsWord}
-use Rattle.macho_image.specs.Segments.{inside, segments_at, segments_in, number_within, value_of as value_there}
+use Rattle.macho_image.specs.Segments.{inside, segments_at, segments_in, value_of}
 use Rattle.macho_image.specs.declared.places.segment_index.Inside.{Inside}
 use Rattle.macho_image.proofs.SegmentLaws.{inside_some}
 use Rattle.macho_image.proofs.Unbroken.{or_none, broken_none}
@@ -29,7 +29,7 @@ use Rattle.prebind.specs.Places.{is_linkedit_at}
 use Rattle.prebind.specs.Targets.{pointer_at}
 use Rattle.prebind.specs.WordRules.{leads_into_linkedit, leads_nowhere, breaks_135, breaks_136, first_rebase, rebases_broken, symbol_break, linkedit_pointer_break, stray_pointer_break, place_break}
 use Rattle.prebind.proofs.SetLaws.{HaveStreams}
-use Rattle.load_model.specs.Pointers.{rebases_in, value_in, value_of}
+use Rattle.cache_build.specs.Pointers.{rebases_in}
 use Rattle.load_model.proofs.PlainLaws.{HasRebasesAlone}
 use Rattle.cache_build.specs.Setting.{AreRead}
 
@@ -61,7 +61,7 @@ set_word is none k j i w image got =
 -- the segment that contains the value of a pointer, which isn't `__LINKEDIT`
 pub record Leads (i : Img) (w : Location) : Type 0 where
   pub place : Inside
-  pub place_is : inside i.segments (value_of i w) ≡ Some place
+  pub place_is : inside i.segments (value_of i.segments w) ≡ Some place
   pub segment : Seg
   pub segment_is : slice_get i.segments place.segment ≡ Some segment
   pub owned : is_linkedit_segment segment ≡ false
@@ -84,23 +84,15 @@ position_none p xs j x none got =
 
 -- a rebase of an image whose words are rebases alone
 free_rebase : (breaks : List Seg → ℕ → Option ℕ → Bool) (ss : List Seg) (s : StreamLists) (j : ℕ) (w : Location) → s.binds ≡ [] → s.references ≡ [] → rebases_broken breaks ss s ≡ None → slice_get s.rebases j ≡ Some w
-    → breaks ss (value_there ss w) None ≡ false
+    → breaks ss (value_of ss w) None ≡ false
 free_rebase breaks ss s j w binds references none got =
-    position_none (λ (l : Location). not (is_bound [] l.address) && breaks ss (value_there ss l) (pointer_at [] l.address)) s.rebases j w
+    position_none (λ (l : Location). not (is_bound [] l.address) && breaks ss (value_of ss l) (pointer_at [] l.address)) s.rebases j w
     (sym (ap₂ (λ (bs : List BoundWord) (rs : List Reference). first_rebase breaks ss (is_bound bs) (pointer_at rs) s.rebases) binds references) ∙ none) got
 
--- the value of a word, in both ways to say it
-value_same : (i : Img) (w : Location) → value_there i.segments w ≡ value_of i w
-unfolding value_there value_of
-value_same i w = elim (slice_get i.segments w.segment) as (λ o. number_within 8 o w.address ≡ value_in o w.address) [
-  | None ↦ refl
-  | Some s ↦ refl
-]
-
-leads_from : (i : Img) (w : Location) (o : Option Inside) → inside i.segments (value_of i w) ≡ o → leads_nowhere o ≡ false → leads_into_linkedit i.segments o ≡ false → Leads i w
+leads_from : (i : Img) (w : Location) (o : Option Inside) → inside i.segments (value_of i.segments w) ≡ o → leads_nowhere o ≡ false → leads_into_linkedit i.segments o ≡ false → Leads i w
 leads_from i w None led some owned = absurd (cc)
 leads_from i w (Some p) led some owned =
-    let at = inside_some i.segments (value_of i w) p led in
+    let at = inside_some i.segments (value_of i.segments w) p led in
     record { place = p; place_is = led; segment = at.0; segment_is = at.1; owned = sym (ap is_linkedit_at at.1) ∙ owned }
 
 -- the groups of an image, each by itself
@@ -121,7 +113,7 @@ no_place_break set k none =
 own_segments : (is : List Img) (k : ℕ) (i : Img) → slice_get is k ≡ Some i → segments_at is k ≡ i.segments
 own_segments is k i got = ap segments_in got
 
-own_streams : (is : List Img) (k : ℕ) (i : Img) → slice_get is k ≡ Some i → streams_at (image_set is) k ≡ lists_of i
+pub own_streams : (is : List Img) (k : ℕ) (i : Img) → slice_get is k ≡ Some i → streams_at (image_set is) k ≡ lists_of i
 unfolding image_set
 own_streams is k i got = ap streams_in (slice_get-map lists_of is k ∙ ap (λ (o : Option Img). option_map lists_of o) got)
 
@@ -140,6 +132,6 @@ unfolding lists_of
 lead_sets is led k j i w image got =
     let plain : HasRebasesAlone i = led.plain k i image in
     let groups = no_place_break (image_set is) k (led.unbroken k (slice_get_within is k i image)) in
-    leads_from i w (inside i.segments (value_of i w)) refl
-    (ap (λ (v : ℕ). leads_nowhere (inside i.segments v)) (sym (value_same i w)) ∙ free_rebase breaks_136 i.segments (lists_of i) j w plain.binds plain.references (stray_free is k i image groups.1) got)
-    (ap (λ (v : ℕ). leads_into_linkedit i.segments (inside i.segments v)) (sym (value_same i w)) ∙ free_rebase breaks_135 i.segments (lists_of i) j w plain.binds plain.references (linkedit_free is k i image groups.0) got)
+    leads_from i w (inside i.segments (value_of i.segments w)) refl
+    (free_rebase breaks_136 i.segments (lists_of i) j w plain.binds plain.references (stray_free is k i image groups.1) got)
+    (free_rebase breaks_135 i.segments (lists_of i) j w plain.binds plain.references (linkedit_free is k i image groups.0) got)

@@ -1,15 +1,24 @@
 -- Pointers that rise between two places, where they are joined of what items and their numbers give.
-use Rattle.std.proofs.Common.{◌≡◌, ◌≤◌, ◌<◌, ℕ, suc, ◌+◌, ◌-◌, ◌%◌, Some, List, [], ◌∷◌, ◌++◌, length, map, take, get_or, refl, sym, subst, arith, inl, inr}
+use Rattle.std.proofs.Common.{◌≡◌, ◌≤◌, ◌<◌, ℕ, suc, ◌+◌, ◌-◌, ◌%◌, ◌^◌, Some, List, [], ◌∷◌, ◌++◌, length, map, take, get_or, refl, sym, subst, arith, inl, inr}
 use Rattle.std.specs.Prelude.{filter, nat_eq, slice_get}
-use Rattle.std.specs.List.{All, sum_by, flat_map, enumerate_from}
+use Rattle.std.specs.List.{sum_by, flat_map, enumerate_from}
 use Rattle.std.proofs.lemmas.Bool.{cases_Bool, cond-true, cond-false, eqb-true}
-use Rattle.std.proofs.lemmas.List.Elements.{All-nil, All-cons}
 use Rattle.std.proofs.lemmas.List.Sums.{sum_by-cons}
 use Rattle.dsc_base.specs.declared.edits.Edit.{Edit}
 use Rattle.macho_image.specs.declared.place.Location.{Location}
 use Rattle.macho_image.specs.Order.{addresses_of}
 use Rattle.slide_chain.specs.Making.{AreWords, AllBelow}
-use Rattle.load_model.specs.Linking.{IsPointer, places, ArePointers}
+use Rattle.dsc_base.specs.Edits.{AllInside, AllFit, RisesFrom, IsAmong}
+use Rattle.dsc_base.proofs.EditLaws.{rising_apart}
+use Rattle.slide_chain.specs.Linked.{HavePointers}
+use Rattle.cache_build.specs.Pointers.{places}
+use Rattle.cache_build.specs.Setting.{ArePointers}
+
+-- a pointer to be set: eight bytes, a value that isn't 0 and leaves the bits from 48 up to the chain
+pub record IsPointer (e : Edit) : Type 0 where
+  pub width : e.width ≡ 8
+  pub some : 0 < e.value
+  pub small : e.value < 2 ^ 48
 
 -- pointers that rise from one place to another
 abbrev pub AreBetween : ℕ → ℕ → List Edit → Type 0
@@ -38,12 +47,44 @@ between_below : (from to : ℕ) (es : List Edit) → AreBetween from to es → A
 between_below from to [] between = tt
 between_below from to (e ∷ es) between = (omega (arith, between_ends (e.at + 8) to es between.4), between_below (e.at + 8) to es between.4)
 
-between_values : (from to : ℕ) (es : List Edit) → AreBetween from to es → All IsPointer es
-between_values from to [] between = All-nil IsPointer
-between_values from to (e ∷ es) between = All-cons IsPointer e es between.3 (between_values (e.at + 8) to es between.4)
+-- where they lie, and what they are
 
-pub between_pointers : (size : ℕ) (es : List Edit) → AreBetween 0 size es → ArePointers size es
-between_pointers size es between = record { words = between_words 0 size es between; below = between_below 0 size es between; values = between_values 0 size es between }
+between_inside : (from to : ℕ) (es : List Edit) → AreBetween from to es → AllInside to es
+between_inside from to [] between = tt
+between_inside from to (e ∷ es) between =
+    let width : e.width ≡ 8 = between.3.width in
+    (omega (arith, width, between_ends (e.at + 8) to es between.4), between_inside (e.at + 8) to es between.4)
+
+between_rises : (from to : ℕ) (es : List Edit) → AreBetween from to es → RisesFrom from es
+between_rises from to [] between = tt
+between_rises from to (e ∷ es) between = (between.0, subst (λ (w : ℕ). RisesFrom (e.at + w) es) (sym between.3.width) (between_rises (e.at + 8) to es between.4))
+
+between_fit : (from to : ℕ) (es : List Edit) → AreBetween from to es → AllFit es
+between_fit from to [] between = tt
+between_fit from to (e ∷ es) between =
+    let first : IsPointer e = between.3 in
+    let small : e.value < 256 ^ 8 = omega (arith, first.small) in
+    (subst (λ (w : ℕ). e.value < 256 ^ w) (sym first.width) small, between_fit (e.at + 8) to es between.4)
+
+between_have : (from to : ℕ) (all es : List Edit) → AreBetween from to es → ((e : Edit) → IsAmong e es → IsAmong e all) → HavePointers all (places es)
+between_have from to all [] between among = tt
+between_have from to all (e ∷ es) between among = (
+  record { edit = e; among = among e (inl refl); place = refl; width = between.3.width; some = between.3.some; small = between.3.small },
+  between_have (e.at + 8) to all es between.4 (λ d later. among d (inr later)),
+)
+
+pub between_pointers : (size : ℕ) (es : List Edit) → size % 4096 ≡ 0 → AreBetween 0 size es → ArePointers size es
+between_pointers size es whole between = record {
+  some = omega arith;
+  most = omega arith;
+  pages = whole;
+  words = between_words 0 size es between;
+  below = between_below 0 size es between;
+  pointers = between_have 0 size es es between (λ e among. among);
+  inside = between_inside 0 size es between;
+  apart = rising_apart 0 es (between_rises 0 size es between);
+  fit = between_fit 0 size es between;
+}
 
 -- ---- joined lists
 

@@ -17,8 +17,8 @@ use Rattle.macho_edit.proofs.KeptSections.{IsShaped, Stands, stands_from}
 use Rattle.macho_edit.proofs.KeptSegments.{good_or, good_text, IsGoodText}
 use Rattle.macho_edit.proofs.SoundLaws.{sound_rules}
 use Rattle.cache_layout.proofs.SoundLaws.{shape_parts}
-use Rattle.load_model.specs.Memory.{wrap}
-use Rattle.load_model.specs.Loading.{in_memory, segments_at}
+use Rattle.macho_image.specs.Places.{wrap}
+use Rattle.load_model.specs.Loading.{in_memory, segment_cells}
 use Rattle.load_model.proofs.LoadingLaws.{KeepApart, IsLow, AreApartFrom, AreApart, loaded_cell}
 
 keep_apart : (s t : Seg) (l k : SegmentLoad) → unread s ≡ segment_with [] l → unread t ≡ segment_with [] k → shares_address l k ≡ false → KeepApart s t
@@ -213,7 +213,7 @@ pub record IsLoadedByte (image : Img) (slide offset : ℕ) (u : Section) : Type 
   pub within : distance < home.vmsize
   pub other : is_linkedit_segment home ≡ false
   pub behind : u.segment ≡ 0 → length image.header ≤ distance
-  pub there : segments_at slide image.segments (wrap (u.addr + offset + slide)) ≡ Some (get_or (in_memory home) distance 0)
+  pub there : segment_cells slide image.segments (wrap (u.addr + offset + slide)) ≡ Some (get_or (in_memory home) distance 0)
 
 pub loaded_section_byte : (image : Img) → IsSound image → (j offset slide : ℕ) (u : Section) → slice_get image.sections j ≡ Some u → offset < u.size → IsLoadedByte image slide offset u
 loaded_section_byte image sound j offset slide u got lt =
@@ -234,6 +234,6 @@ loaded_section_byte image sound j offset slide u got lt =
       behind = λ first.
           let start : is.home.vmaddr + header_size image.header ≤ u.addr = is.behind first in
           omega (arith, start, whole);
-      there = ap (λ (x : ℕ). segments_at slide image.segments (wrap (x + slide))) same
+      there = ap (λ (x : ℕ). segment_cells slide image.segments (wrap (x + slide))) same
           ∙ loaded_cell slide (u.addr - is.home.vmaddr + offset) u.segment is.home image.segments (sound_apart image sound) is.found within;
     }

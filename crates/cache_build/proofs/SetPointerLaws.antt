@@ -1,5 +1,5 @@
 -- Pointers that are set one by one, by segment and image.
-use Rattle.std.proofs.Common.{◌≡◌, ◌≤◌, ◌<◌, ℕ, zero, suc, min, ◌+◌, ◌-◌, ◌^◌, Bool, true, false, cond, Option, Some, None, List, [], ◌∷◌, ◌++◌, map, take, drop, length, get_or, refl, sym, ap, ap₂, subst, ◌∙◌, arith, append_assoc}
+use Rattle.std.proofs.Common.{◌≡◌, ◌≤◌, ◌<◌, ℕ, zero, suc, min, ◌+◌, ◌-◌, ◌^◌, Bool, true, false, cond, Option, Some, List, [], ◌∷◌, ◌++◌, map, take, drop, length, get_or, refl, sym, ap, ap₂, subst, ◌∙◌, arith, append_assoc}
 use Rattle.std.specs.Prelude.{filter, nat_eq, nat_lt, slice_get}
 use Rattle.std.specs.List.{All, flat_map, enumerate_from}
 use Rattle.std.specs.List.Sorted.{IsNonDecreasingBy, IsPartitionedBy, IsPartitionPoint}
@@ -17,17 +17,15 @@ use Rattle.dsc_base.proofs.EditLaws.{put_all-append}
 use Rattle.macho_image.specs.Records.{Seg, Img}
 use Rattle.macho_image.specs.declared.place.Location.{Location}
 use Rattle.macho_image.specs.declared.place.Moved.{Moved}
-use Rattle.macho_image.specs.Segments.{contains, inside, number_in}
+use Rattle.macho_image.specs.Segments.{contains, inside, number_in, number_within, value_of}
 use Rattle.macho_image.specs.Index.{Indexes, found_in}
 use Rattle.macho_image.specs.declared.places.segment_index.Entry.{Entry}
 use Rattle.macho_image.specs.declared.places.segment_index.Inside.{Inside}
 use Rattle.cache_layout.specs.Layouts.{Laid}
 use Rattle.cache_layout.proofs.NumberedLaws.{take-step}
-use Rattle.load_model.specs.Linking.{places}
-use Rattle.load_model.specs.Pointers.{rebases_in, value_in, value_of, place_of, pointer_target}
-use Rattle.load_model.specs.Words.{number_to}
-use Rattle.cache_build.specs.Pointers.{cached_starts, move_or, pointer_edit, moved_number, pointers_inside, segment_pointers, image_pointers}
-use Rattle.cache_build.specs.Setting.{edit_in, edits_of, all_edits, Belong}
+use Rattle.cache_build.specs.Pointers.{rebases_in, cached_starts, cached_address, move_or, pointer_target, pointer_edit, moved_number, pointers_inside, segment_pointers, image_pointers, places}
+use Rattle.cache_build.specs.Setting.{LeadsToPlace, LeadToPlaces, edit_in, edits_of, all_edits, Belong}
+use Rattle.cache_build.proofs.TargetLaws.{number_is, moved_place}
 
 -- ---- the pointers that a segment contains
 
@@ -209,35 +207,33 @@ all_placed_more {X} h xs n x es first old new lt is same before grown =
 
 -- ---- the pointers of an image
 
-moved_same : (l : Laid) (k : ℕ) (p : Option Inside) (value : ℕ) → moved_number (get_or l.moves k []) p value ≡ number_to (cached_starts l) (place_of k p value)
-moved_same l k None value = refl
-moved_same l k (Some p) value = refl
-
 -- a pointer of segment g, by the index and the moves of its image
-one_same : (index : List Entry) (l : Laid) (k : ℕ) (image : Img) (g : ℕ) (s : Seg) (w : Location) → Indexes image.segments index → g < length image.segments → s ≡ get_or image.segments g s → w.segment ≡ g
+one_same : (index : List Entry) (l : Laid) (k : ℕ) (image : Img) (g : ℕ) (s : Seg) (w : Location) → Indexes image.segments index → g < length image.segments → s ≡ get_or image.segments g s → w.segment ≡ g → LeadsToPlace k image w
     → edit_in index (get_or l.moves k []) ((get_or (get_or l.moves k []) g (record { address = 0; file = 0 })).file - l.writable.at) s w ≡ pointer_edit l k image g s w
-unfolding pointer_target value_of
-one_same index l k image g s w indexes lt at own =
-    let value : value_in (slice_get image.segments w.segment) w.address ≡ number_in s w.address =
-    ap (λ (o : Option Seg). value_in o w.address) (ap (λ (n : ℕ). slice_get image.segments n) own ∙ slice_get_read image.segments (length image.segments) g s refl lt at) in
+unfolding value_of
+one_same index l k image g s w indexes lt at own led =
+    let moves : List Moved = get_or l.moves k [] in
+    let value : value_of image.segments w ≡ number_in s w.address =
+    ap (λ (o : Option Seg). number_within 8 o w.address) (ap (λ (n : ℕ). slice_get image.segments n) own ∙ slice_get_read image.segments (length image.segments) g s refl lt at) in
     ap (λ (n : ℕ). let e : Edit = record { at = (get_or (get_or l.moves k []) g (record { address = 0; file = 0 })).file - l.writable.at + (w.address - s.vmaddr); width = 8; value = n } in e)
-    (ap (λ (o : Option Inside). moved_number (get_or l.moves k []) o (number_in s w.address)) (indexes (number_in s w.address))
-    ∙ (moved_same l k (inside image.segments (number_in s w.address)) (number_in s w.address)
-    ∙ ap (λ (n : ℕ). number_to (cached_starts l) (place_of k (inside image.segments n) n)) (sym value)))
+    (ap (λ (o : Option Inside). moved_number moves o (number_in s w.address)) (indexes (number_in s w.address))
+    ∙ (ap (λ (n : ℕ). moved_number moves (inside image.segments n) n) (sym value)
+    ∙ (moved_place moves k image.segments (value_of image.segments w) (inside image.segments (value_of image.segments w)) k led.segment led.distance led.is
+    ∙ sym (number_is (cached_starts l) (cached_address l k g s w) (cached_starts l k 0) k led.segment led.distance (pointer_target k image w) led.is))))
 
-own_same : (f h : Location → Edit) (g : ℕ) (ws : List Location) → ((w : Location) → w.segment ≡ g → f w ≡ h w) → map f (pointers_inside g ws) ≡ map h (pointers_inside g ws)
+own_same : (f h : Location → Edit) (g : ℕ) (ws : List Location) → ((j : ℕ) (w : Location) → slice_get ws j ≡ Some w → w.segment ≡ g → f w ≡ h w) → map f (pointers_inside g ws) ≡ map h (pointers_inside g ws)
 own_same f h g [] same = refl
-own_same f h g (w ∷ ws) same = here (nat_eq w.segment g) refl (own_same f h g ws same)
+own_same f h g (w ∷ ws) same = here (nat_eq w.segment g) refl (own_same f h g ws (λ j v got at. same (suc j) v got at))
   where
     here : (b : Bool) → nat_eq w.segment g ≡ b → map f (pointers_inside g ws) ≡ map h (pointers_inside g ws) → map f (cond b (w ∷ pointers_inside g ws) (pointers_inside g ws)) ≡ map h (cond b (w ∷ pointers_inside g ws) (pointers_inside g ws))
-    here true is later = ap₂ (λ (e : Edit) (l : List Edit). e ∷ l) (same w (eqb-true w.segment g is)) later
+    here true is later = ap₂ (λ (e : Edit) (l : List Edit). e ∷ l) (same 0 w refl (eqb-true w.segment g is)) later
     here false is later = later
 
-segment_same : (index : List Entry) (l : Laid) (k : ℕ) (image : Img) (g : ℕ) (s : Seg) → Indexes image.segments index → g < length image.segments → s ≡ get_or image.segments g s
+segment_same : (index : List Entry) (l : Laid) (k : ℕ) (image : Img) (g : ℕ) (s : Seg) → Indexes image.segments index → LeadToPlaces k image → g < length image.segments → s ≡ get_or image.segments g s
     → edits_of index (get_or l.moves k []) l.writable.at (rebases_in image) g s ≡ segment_pointers l k image g s
-segment_same index l k image g s indexes lt at =
+segment_same index l k image g s indexes led lt at =
     own_same (edit_in index (get_or l.moves k []) ((get_or (get_or l.moves k []) g (record { address = 0; file = 0 })).file - l.writable.at) s) (pointer_edit l k image g s) g (rebases_in image)
-    (λ w own. one_same index l k image g s w indexes lt at own)
+    (λ j w got own. one_same index l k image g s w indexes lt at own (led j w got))
 
 -- edits by the items of a list are the same where those of each item are
 by_same : {X : Type 0} (f h : ℕ → X → List Edit) (n : ℕ) (xs : List X) → ((k : ℕ) (x : X) → k < length xs → x ≡ get_or xs k x → f (n + k) x ≡ h (n + k) x)
@@ -251,10 +247,10 @@ by_same {X} f h n (x ∷ xs) same =
     one_on : (k : ℕ) (y : X) → f (n + suc k) y ≡ h (n + suc k) y → f (n + 1 + k) y ≡ h (n + 1 + k) y
     one_on k y is = let on : n + 1 + k ≡ n + suc k = omega arith in ap (λ (m : ℕ). f m y) on ∙ (is ∙ sym (ap (λ (m : ℕ). h m y) on))
 
-pub image_same : (index : List Entry) (l : Laid) (k : ℕ) (image : Img) → Indexes image.segments index → all_edits index (get_or l.moves k []) l.writable.at (rebases_in image) image.segments ≡ image_pointers l k image
-image_same index l k image indexes =
+pub image_same : (index : List Entry) (l : Laid) (k : ℕ) (image : Img) → Indexes image.segments index → LeadToPlaces k image → all_edits index (get_or l.moves k []) l.writable.at (rebases_in image) image.segments ≡ image_pointers l k image
+image_same index l k image indexes led =
     by_same (λ (g : ℕ) (s : Seg). edits_of index (get_or l.moves k []) l.writable.at (rebases_in image) g s) (λ (g : ℕ) (s : Seg). segment_pointers l k image g s) 0 image.segments
-    (λ g s lt at. subst (λ (n : ℕ). edits_of index (get_or l.moves k []) l.writable.at (rebases_in image) n s ≡ segment_pointers l k image n s) (zero_on g) (segment_same index l k image g s indexes lt at))
+    (λ g s lt at. subst (λ (n : ℕ). edits_of index (get_or l.moves k []) l.writable.at (rebases_in image) n s ≡ segment_pointers l k image n s) (zero_on g) (segment_same index l k image g s indexes led lt at))
   where
     zero_on : (g : ℕ) → g ≡ 0 + g
     zero_on g = omega arith
@@ -279,8 +275,8 @@ segment_edits index moves data_at ws ss n s start own belong lt at begins is =
     ∙ ap (λ (l : List Location). map (edit_in index moves ((move_or moves n).file - data_at) s) l) (is ∙ sym (own_inside ws ss n s belong lt at))
 
 -- those of an image, by what its parts are
-pub image_edits : (index : List Entry) (l : Laid) (k at : ℕ) (image : Img) (moves : List Moved) (ws : List Location) (ss : List Seg) → Indexes image.segments index → moves ≡ get_or l.moves k [] → at ≡ l.writable.at → ws ≡ rebases_in image → ss ≡ image.segments
+pub image_edits : (index : List Entry) (l : Laid) (k at : ℕ) (image : Img) (moves : List Moved) (ws : List Location) (ss : List Seg) → Indexes image.segments index → LeadToPlaces k image → moves ≡ get_or l.moves k [] → at ≡ l.writable.at → ws ≡ rebases_in image → ss ≡ image.segments
     → all_edits index moves at ws ss ≡ image_pointers l k image
-image_edits index l k at image moves ws ss indexes moved begins found own =
+image_edits index l k at image moves ws ss indexes led moved begins found own =
     ap₂ (λ (m : List Moved) (a : ℕ). all_edits index m a ws ss) moved begins
-    ∙ (ap₂ (λ (v : List Location) (t : List Seg). all_edits index (get_or l.moves k []) l.writable.at v t) found own ∙ image_same index l k image indexes)
+    ∙ (ap₂ (λ (v : List Location) (t : List Seg). all_edits index (get_or l.moves k []) l.writable.at v t) found own ∙ image_same index l k image indexes led)

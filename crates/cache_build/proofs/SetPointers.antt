@@ -20,12 +20,13 @@ use Rattle.cache_layout.specs.Apart.{IsSegment, IsWithin, move_at, range_in}
 use Rattle.cache_layout.proofs.PlaceLaws.{are_within}
 use Rattle.cache_layout.proofs.RoomLaws.{paged-covers}
 use Rattle.cache_layout.proofs.SpaceLaws.{sound_space}
-use Rattle.load_model.specs.Memory.{wrap}
-use Rattle.load_model.specs.Words.{number_to}
-use Rattle.load_model.specs.Pointers.{rebases_in, value_of, place_of, pointer_target}
-use Rattle.cache_build.specs.Pointers.{cached_starts, pointer_edit, segment_pointers, image_pointers, pointers_of}
+use Rattle.macho_image.specs.Segments.{value_of}
+use Rattle.split_info.specs.declared.reference.RefKind.TheVariants.{Pointer64}
+use Rattle.prebind.specs.Numbers.{number_to}
+use Rattle.cache_build.specs.Pointers.{rebases_in, cached_starts, pointer_target, pointer_edit, segment_pointers, image_pointers, pointers_of}
 use Rattle.cache_build.proofs.HeadFacts.{IsReady}
 use Rattle.cache_build.proofs.ReadSets.{set_word, Leads, lead_sets}
+use Rattle.cache_build.proofs.TargetLaws.{target_is, number_is}
 use Rattle.cache_build.proofs.AmongLaws.{among_given, among_of, among_passed, passed_of}
 use Rattle.cache_build.proofs.Protections.{writable_owned, writable_mapping}
 
@@ -151,9 +152,9 @@ pointer_stands is ready k j i w s image got segment =
 -- The number leads to the place of the target's segment in the cache, as far behind its start as in the file.
 pub record LeadsInto (is : List Img) (k : ℕ) (i : Img) (w : Location) : Type 0 where
   pub leads : Leads i w
-  pub number : number_to (cached_starts (layout_of is)) (pointer_target k i w) ≡ (move_at (layout_of is) k leads.place.segment).address + leads.place.distance
-  pub some : 0 < number_to (cached_starts (layout_of is)) (pointer_target k i w)
-  pub small : number_to (cached_starts (layout_of is)) (pointer_target k i w) < 2 ^ 47
+  pub number : (location header : ℕ) → number_to (cached_starts (layout_of is)) location header Pointer64 (pointer_target k i w) ≡ (move_at (layout_of is) k leads.place.segment).address + leads.place.distance
+  pub some : 0 < (move_at (layout_of is) k leads.place.segment).address + leads.place.distance
+  pub small : (move_at (layout_of is) k leads.place.segment).address + leads.place.distance < 2 ^ 47
 
 -- the address of a byte of a segment in the cache
 record IsHigh (is : List Img) (k g d : ℕ) : Type 0 where
@@ -165,23 +166,21 @@ high_at is ready k g d i s there owned lt =
     let own = are_within is ready.none k g i s there owned in
     record { some = omega (arith, own.2.address); small = omega (arith, own.2.address, own.2.end, own.2.span, paged-covers s.vmsize, lt) }
 
-number_place : (is : List Img) (k : ℕ) (i : Img) (w : Location) (leads : Leads i w) → IsHigh is k leads.place.segment leads.place.distance
-    → number_to (cached_starts (layout_of is)) (pointer_target k i w) ≡ (move_at (layout_of is) k leads.place.segment).address + leads.place.distance
-unfolding pointer_target wrap
-number_place is k i w leads high =
-    ap (λ (o : Option Inside). number_to (cached_starts (layout_of is)) (place_of k o (value_of i w))) leads.place_is ∙ omega (arith, high.small)
+number_place : (is : List Img) (k : ℕ) (i : Img) (w : Location) (leads : Leads i w) → IsHigh is k leads.place.segment leads.place.distance → (location header : ℕ)
+    → number_to (cached_starts (layout_of is)) location header Pointer64 (pointer_target k i w) ≡ (move_at (layout_of is) k leads.place.segment).address + leads.place.distance
+number_place is k i w leads high location header =
+    number_is (cached_starts (layout_of is)) location header k leads.place.segment leads.place.distance (pointer_target k i w) (target_is k i w leads) ∙ omega (arith, high.small)
 
 pub pointer_leads : (is : List Img) → IsReady is → (k j : ℕ) (i : Img) (w : Location) → slice_get is k ≡ Some i → slice_get (rebases_in i) j ≡ Some w → LeadsInto is k i w
 pointer_leads is ready k j i w image got =
     let leads : Leads i w = lead_sets is ready.lead k j i w image got in
     let p : Inside = leads.place in
-    let at = inside_some i.segments (value_of i w) p leads.place_is in
+    let at = inside_some i.segments (value_of i.segments w) p leads.place_is in
     let there : IsSegment is k p.segment i leads.segment = segment_of is k p.segment i leads.segment image leads.segment_is in
     let same : at.0 ≡ leads.segment = one_segment (slice_get i.segments p.segment) at.0 leads.segment at.1 leads.segment_is in
     let inner : p.distance < leads.segment.vmsize = subst (λ (t : Seg). p.distance < t.vmsize) same at.4 in
     let high : IsHigh is k p.segment p.distance = high_at is ready k p.segment p.distance i leads.segment there leads.owned inner in
-    let number : number_to (cached_starts (layout_of is)) (pointer_target k i w) ≡ (move_at (layout_of is) k p.segment).address + p.distance = number_place is k i w leads high in
-    record { leads = leads; number = number; some = omega (arith, number, high.some); small = omega (arith, number, high.small) }
+    record { leads = leads; number = number_place is k i w leads high; some = high.some; small = high.small }
   where
     one_segment : (o : Option Seg) (s t : Seg) → o ≡ Some s → o ≡ Some t → s ≡ t
     one_segment o s t first second = let both : Some s ≡ Some t = sym first ∙ second in cc

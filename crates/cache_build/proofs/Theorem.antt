@@ -1,9 +1,9 @@
 -- The cache of a set of files corresponds to them, wherever they are loaded and at every permitted slide.
-use Rattle.std.proofs.Common.{◌≡◌, ◌≤◌, ◌<◌, ℕ, zero, suc, ◌+◌, ◌-◌, false, Option, Some, None, List, [], ◌∷◌, length, get_or, All, Vec, Global, refl, sym, ap, ◌∙◌, subst, arith}
+use Rattle.std.proofs.Common.{◌≡◌, ◌≤◌, ◌<◌, ℕ, ◌+◌, ◌-◌, false, Option, Some, None, List, [], length, map, get_or, All, Vec, Global, refl, sym, ap, ◌∙◌, subst, arith}
 use Rattle.std.specs.Prelude.{slice_get}
 use Rattle.std.specs.Option.{option_or}
 use Rattle.std.proofs.lemmas.List.{get_or_default, length-map, get_or-map}
-use Rattle.std.proofs.lemmas.Option.{same_Some, slice_get-get_or, get_or_from_slice_get, slice_get_read}
+use Rattle.std.proofs.lemmas.Option.{slice_get-get_or, slice_get_within, get_or_from_slice_get, slice_get_read}
 use Rattle.dsc_base.specs.Region.{region_start, paged}
 use Rattle.dsc_base.specs.declared.fault.Break.{Break}
 use Rattle.macho_image.specs.declared.form.Form.TheVariants.{Standalone}
@@ -15,21 +15,23 @@ use Rattle.macho_image.specs.Macho.{header_in, image_of, image_from}
 use Rattle.macho_image.specs.Rules.{is_linkedit_segment, breaks_wrong_kind}
 use Rattle.macho_image.specs.Breaks.{IsSound, form_of}
 use Rattle.macho_image.proofs.Unbroken.{image_unbroken, kind_unbroken, form_is}
-use Rattle.macho_image.specs.Places.{IsWord}
+use Rattle.macho_image.specs.Places.{wrap, IsWord}
 use Rattle.macho_edit.specs.MovedImage.{moved_image}
 use Rattle.cache_layout.specs.Layouts.{Laid, layout_of, layout_break}
 use Rattle.cache_layout.specs.Apart.{IsSegment, AreInTurn, range_in, move_at}
 use Rattle.cache_layout.proofs.PlaceLaws.{are_within, are_in_turn}
-use Rattle.cache_layout.proofs.NumberedLaws.{length-numbered}
 use Rattle.cache_layout.proofs.RoomLaws.{paged-covers}
 use Rattle.cache_layout.specs.declared.mapping.Mapping.{Mapping}
 use Rattle.cache_layout.specs.declared.mapping.Mapping.TheVariants.{Text, Writable, Fixed}
-use Rattle.load_model.specs.Memory.{wrap}
-use Rattle.load_model.specs.Words.{Word}
-use Rattle.load_model.specs.Loading.{Linked, linked, linked_set, in_memory, segments_at, rebased, bound_to, loaded_image, loaded, loaded_starts}
+use Rattle.macho_image.specs.Order.{addresses_of}
+use Rattle.prebind.specs.Sets.{image_set}
+use Rattle.prebind.specs.Words.{Word, words_of}
+use Rattle.load_model.specs.Memory.{Cells}
+use Rattle.load_model.specs.Loading.{in_memory, segment_cells, rebased}
 use Rattle.load_model.specs.Mapped.{mapped, cached_image}
-use Rattle.load_model.specs.Pointers.{rebases_in}
-use Rattle.load_model.specs.Corresponds.{shape_of, mapped_starts, InWord, IsWordOf, Leads, ImageCorresponds, Corresponds}
+use Rattle.cache_build.specs.Pointers.{rebases_in}
+use Rattle.load_model.specs.Corresponds.{shape_of, loaded_side, mapped_side, InWord, IsWordOf, WordCorresponds, ImageCorresponds, Corresponds}
+use Rattle.load_model.proofs.PlainLaws.{HasRebasesAlone}
 use Rattle.load_model.proofs.LoadingLaws.{IsLow, low_at}
 use Rattle.load_model.proofs.RebasedLaws.{rebased_other}
 use Rattle.cache_build.specs.Places.{span_of}
@@ -43,7 +45,6 @@ use Rattle.cache_build.specs.Built.{built}
 use Rattle.cache_build.specs.Always.{CorrespondsAlways}
 use Rattle.cache_build.specs.Fits.{CanAssemble}
 use Rattle.cache_build.proofs.BuildLaws.{ready_set}
-use Rattle.cache_build.proofs.HeadLaws.{no_image}
 use Rattle.cache_build.proofs.HeadFacts.{IsReady, assembles}
 use Rattle.cache_build.proofs.SectionLaws.{IsLoadedByte, loaded_section_byte, sound_apart, IsInside, section_inside}
 use Rattle.cache_build.proofs.MovedLaws.{IsMovedSection, moved_shape, moved_section, moved_section_at}
@@ -53,17 +54,13 @@ use Rattle.cache_build.proofs.SetPointers.{sound_at}
 use Rattle.cache_build.proofs.WholePages.{header_long, header_fits}
 use Rattle.cache_build.proofs.CachedSegments.{segment_stands}
 use Rattle.cache_build.proofs.CachedImages.{links_in, spots_in, moves_in, mapped_byte, in_cache}
-use Rattle.cache_build.proofs.OwnWords.{in_word, IsPointerWord, word_at, word_of}
+use Rattle.cache_build.proofs.OwnWords.{own_word, words_are, loaded_is, in_word, IsPointerWord, word_at, word_of, numbered}
 use Rattle.cache_build.proofs.PlacesApart.{free_place}
-use Rattle.cache_build.proofs.LedPointers.{own_member, loaded_leads, mapped_leads}
+use Rattle.cache_build.proofs.LedPointers.{loaded_leads, mapped_leads}
+use Rattle.cache_build.proofs.ExportLaws.{moved_trie, same_exports}
 use Rattle.cache_build.proofs.ReadSets.{read_sets}
 
 -- ---- the bytes
-
-within : {X : Type 0} (xs : List X) (g : ℕ) (x : X) → slice_get xs g ≡ Some x → g < length xs
-within [] g x found = absurd (cc)
-within (y ∷ ys) zero x found = omega arith
-within (y ∷ ys) (suc g) x found = omega (arith, within ys g x found)
 
 -- segments end in the cache
 ends_in : (is : List Img) → IsReady is → (k g : ℕ) (i : Img) (s : Seg) → IsSegment is k g i s → is_linkedit_segment s ≡ false → (move_at (layout_of is) k g).file + paged s.vmsize ≤ span_of (layout_of is)
@@ -94,7 +91,7 @@ stands_in is ready k i lt at load j offset u v first second byte =
     let can : CanAssemble l is = assembles is ready in
     let g : ℕ = u.segment in
     let s : Seg = byte.home in
-    let below : u.segment < length i.segments = within i.segments u.segment byte.home byte.found in
+    let below : u.segment < length i.segments = slice_get_within i.segments u.segment byte.home byte.found in
     let own : byte.home ≡ get_or i.segments u.segment byte.home = sym (get_or_from_slice_get i.segments u.segment byte.home byte.home byte.found) in
     let there : IsSegment is k u.segment i byte.home = record { image_in = lt; image_is = at; segment_in = below; segment_is = own } in
     let m : Moved = move_at l k g in
@@ -120,8 +117,8 @@ section_low i sound j u got =
 -- a byte of a section that is in no pointer, loaded and mapped
 same_byte : (is : List Img) → IsReady is → (k : ℕ) (i : Img) → k < length is → i ≡ get_or is k i → (load map_at j offset : ℕ) (u v : Section)
     → slice_get i.sections j ≡ Some u → slice_get (moved_image i (moves_in is k) (spots_in is) (slid_of is 0)).sections j ≡ Some v → offset < u.size
-    → (InWord (linked k i).words (j + 1) offset → ⊥)
-    → (b : ℕ) × (rebased load (linked k i).rebases (segments_at load i.segments) (wrap (u.addr + offset + load)) ≡ Some b) × (mapped (cache_of is) map_at (wrap (v.addr + offset + map_at)) ≡ Some b)
+    → (InWord (map (own_word k i) (rebases_in i)) (j + 1) u offset → ⊥)
+    → (b : ℕ) × (rebased load (addresses_of (rebases_in i)) (segment_cells load i.segments) (wrap (u.addr + offset + load)) ≡ Some b) × (mapped (cache_of is) map_at (wrap (v.addr + offset + map_at)) ≡ Some b)
 same_byte is ready k i lt at load map_at j offset u v first second inside free =
     let l : Laid = layout_of is in
     let sound : IsSound i = sound_at is ready k i lt at in
@@ -163,78 +160,56 @@ shape_same is ready k i lt at =
     let same : (get_or (moves_in is k) g m).address ≡ (move_at (layout_of is) k g).address = ap (λ (v : Moved). v.address) (get_or_default (moves_in is k) g m (record { address = 0; file = 0 }) below) in
     omega (arith, same, placed.2.address, placed.2.end, placed.2.span, paged-covers t.vmsize))
 
--- the section of a word
-own_section : (is : List Img) → IsReady is → (k : ℕ) (i : Img) → k < length is → i ≡ get_or is k i → (word : Word) → IsWordOf (linked k i).words word → (u : Section) × (slice_get i.sections (word.section - 1) ≡ Some u)
-own_section is ready k i lt at word among =
-    let own : IsPointerWord k i (rebases_in i) word = word_of k i (rebases_in i) word among in
-    let place : IsWord i own.place = word_at i (rebases_in i) own.number own.place (read_sets is ready.streams k i (slice_get_read is (length is) k i refl lt at)) own.found in
-    (place.section, ap (λ (w : Word). slice_get i.sections (w.section - 1)) own.is ∙ place.section_is)
+-- a rebase leads to its target on both sides
+own_corresponds : (is : List Img) → IsReady is → (k : ℕ) (i : Img) → k < length is → i ≡ get_or is k i → (slides : ℕ → ℕ) (slide : ℕ) → cached_image (cache_of is) k ≡ Some (moved_image i (moves_in is k) (spots_in is) (slid_of is 0))
+    → (n : ℕ) (w : Location) → slice_get (rebases_in i) n ≡ Some w → WordCorresponds i (moved_image i (moves_in is k) (spots_in is) (slid_of is 0)) (loaded_side (image_set is) slides k) (mapped_side (cache_of is) slide) (own_word k i w)
+own_corresponds is ready k i lt at slides slide found n w got =
+    let image : Img = moved_image i (moves_in is k) (spots_in is) (slid_of is 0) in
+    let word : IsWord i w = word_at i (rebases_in i) n w (read_sets is ready.streams k i (slice_get_read is (length is) k i refl lt at)) got in
+    let u : Section = word.section in
+    let moved = moved_section i (moves_in is k) (spots_in is) (slid_of is 0) (w.section - 1) u word.section_is in
+    record {
+      section = u;
+      section_is = numbered i.sections w.section u word.section_counts word.section_is;
+      same = _;
+      same_is = numbered image.sections w.section _ word.section_counts moved;
+      offset = w.address - word.section.addr;
+      place = omega (arith, word.section_from);
+      loaded = loaded_leads is ready k n i lt at slides (word.section.addr + (w.address - word.section.addr)) _ w got (omega (arith, word.section_from));
+      mapped = mapped_leads is ready k n i lt at slide _ w _ word found got moved;
+    }
 
--- both sides of a word
-both_lead : (is : List Img) → IsReady is → (k : ℕ) (i : Img) → k < length is → i ≡ get_or is k i → (slides : ℕ → ℕ) (slide header header' : ℕ) (cached : ℕ → Option Img) → cached k ≡ Some (moved_image i (moves_in is k) (spots_in is) (slid_of is 0))
-    → (word : Word) (u v : Section) → IsWordOf (linked k i).words word
-    → slice_get i.sections (word.section - 1) ≡ Some u → slice_get (moved_image i (moves_in is k) (spots_in is) (slid_of is 0)).sections (word.section - 1) ≡ Some v
-    → Leads (rebased (slides k) (linked k i).rebases (segments_at (slides k) i.segments)) (loaded_starts (linked_set is) slides) (wrap (u.addr + word.offset + slides k)) header word
-    × Leads (mapped (cache_of is) slide) (mapped_starts cached slide) (wrap (v.addr + word.offset + slide)) header' word
-both_lead is ready k i lt at slides slide header header' cached found word u v among first second =
-    let own : IsPointerWord k i (rebases_in i) word = word_of k i (rebases_in i) word among in
-    let w : Location = own.place in
-    let section : word.section ≡ w.section = ap (λ (x : Word). x.section) own.is in
-    let at_first : slice_get i.sections (w.section - 1) ≡ Some u = ap (λ (n : ℕ). slice_get i.sections (n - 1)) (sym section) ∙ first in
-    let at_second : slice_get (moved_image i (moves_in is k) (spots_in is) (slid_of is 0)).sections (w.section - 1) ≡ Some v =
-    ap (λ (n : ℕ). slice_get (moved_image i (moves_in is k) (spots_in is) (slid_of is 0)).sections (n - 1)) (sym section) ∙ second in (
-      subst (λ (x : Word). Leads (rebased (slides k) (linked k i).rebases (segments_at (slides k) i.segments)) (loaded_starts (linked_set is) slides) (wrap (u.addr + x.offset + slides k)) header x) (sym own.is)
-          (loaded_leads is ready k own.number i lt at slides header w u own.found at_first),
-      subst (λ (x : Word). Leads (mapped (cache_of is) slide) (mapped_starts cached slide) (wrap (v.addr + x.offset + slide)) header' x) (sym own.is)
-          (mapped_leads is ready k own.number i lt at cached slide header' w u v found own.found at_first at_second),
-    )
+image_corresponds : (is : List Img) → IsReady is → (k : ℕ) (i : Img) → k < length is → i ≡ get_or is k i → (slides : ℕ → ℕ) (slide : ℕ) → cached_image (cache_of is) k ≡ Some (moved_image i (moves_in is k) (spots_in is) (slid_of is 0))
+    → ImageCorresponds i (moved_image i (moves_in is k) (spots_in is) (slid_of is 0)) (words_of (image_set is) k) (loaded_side (image_set is) slides k) (mapped_side (cache_of is) slide)
+image_corresponds is ready k i lt at slides slide found =
+    let image : Img = moved_image i (moves_in is k) (spots_in is) (slid_of is 0) in
+    let member : slice_get is k ≡ Some i = slice_get_read is (length is) k i refl lt at in
+    let plain : HasRebasesAlone i = ready.lead.plain k i member in
+    let words : words_of (image_set is) k ≡ map (own_word k i) (rebases_in i) = words_are is k i member plain in
+    record {
+      shape = shape_same is ready k i lt at;
+      words = λ word among.
+          let own : IsPointerWord k i (rebases_in i) word = word_of k i (rebases_in i) word (subst (λ (ws : List Word). IsWordOf ws word) words among) in
+          subst (λ (x : Word). WordCorresponds i image (loaded_side (image_set is) slides k) (mapped_side (cache_of is) slide) x) (sym own.is)
+          (own_corresponds is ready k i lt at slides slide found own.number own.place own.found);
+      bytes = λ j offset u first inside free.
+          let v = moved_section i (moves_in is k) (spots_in is) (slid_of is 0) j u first in
+          let byte = same_byte is ready k i lt at (slides k) slide j offset u _ first v inside (λ own. free (subst (λ (ws : List Word). InWord ws (j + 1) u offset) (sym words) own)) in
+          (_, v, byte.0, ap (λ (cells : Cells). cells (wrap (u.addr + offset + slides k))) (loaded_is is slides k i member plain) ∙ byte.1, byte.2);
+      trie = moved_trie i (moves_in is k) _ (slid_of is 0);
+      exports = same_exports i (moves_in is k) _ (slid_of is 0) plain.exports;
+    }
 
-image_corresponds : (is : List Img) → IsReady is → (k : ℕ) (i : Img) → k < length is → i ≡ get_or is k i → (slides : ℕ → ℕ) (slide : ℕ) (cached : ℕ → Option Img) → cached k ≡ Some (moved_image i (moves_in is k) (spots_in is) (slid_of is 0))
-    → ImageCorresponds (linked k i) (linked k (moved_image i (moves_in is k) (spots_in is) (slid_of is 0))) (loaded (linked_set is) slides k (linked k i)) (mapped (cache_of is) slide)
-    (loaded_starts (linked_set is) slides) (mapped_starts cached slide) (slides k) slide
-unfolding loaded_image bound_to
-image_corresponds is ready k i lt at slides slide cached found = record {
-  shape = shape_same is ready k i lt at;
-  words = λ w among.
-      let u = own_section is ready k i lt at w among in
-      let v = moved_section i (moves_in is k) (spots_in is) (slid_of is 0) (w.section - 1) u.0 u.1 in
-      let sides = both_lead is ready k i lt at slides slide _ _ cached found w u.0 _ among u.1 v in
-      (u.0, _, u.1, v, sides.0, sides.1);
-  bytes = λ j offset u first inside free.
-      let v = moved_section i (moves_in is k) (spots_in is) (slid_of is 0) j u first in
-      let byte = same_byte is ready k i lt at (slides k) slide j offset u _ first v inside free in
-      (_, v, byte.0, byte.1, byte.2);
-  exports = tt;
-}
-
--- a member of the set is an image with what its streams spell
-member : (is : List Img) (k : ℕ) (f : Linked) → slice_get (linked_set is) k ≡ Some f → (i : Img) × (k < length is) × (i ≡ get_or is k i) × (f ≡ linked k i)
-member is k f found =
-    let below : k < length (linked_set is) = within (linked_set is) k f found in
-    let inside : k < length is = omega (arith, below, length-numbered linked is) in
-    let i : Img = get_or is k no_image in
-    let at : get_or is k no_image ≡ get_or is k (get_or is k no_image) = get_or_default is k no_image i inside in (
-      i,
-      inside,
-      at,
-      same_Some f (linked k i) (sym found ∙ own_member is k i inside at),
-    )
-
-corresponds_at : (is : List Img) → IsReady is → ((k : ℕ) (i : Img) → k < length is → i ≡ get_or is k i → form_of i.header ≡ Standalone) → (slides : ℕ → ℕ) (slide : ℕ) → Corresponds (linked_set is) slides (cache_of is) slide
+corresponds_at : (is : List Img) → IsReady is → ((k : ℕ) (i : Img) → k < length is → i ≡ get_or is k i → form_of i.header ≡ Standalone) → (slides : ℕ → ℕ) (slide : ℕ) → Corresponds (image_set is) slides (cache_of is) slide
+unfolding image_set
 corresponds_at is ready alone slides slide = record {
-  count = count_is is ready ∙ sym (length-numbered linked is);
-  paths = λ k f found. let own = member is k f found in path_is is ready k own.0 own.1 own.2 ∙ ap (λ (m : Linked). m.image.install_name) (sym own.3);
-  images = λ k f found.
-      let own = member is k f found in
-      let i : Img = own.0 in
-      let image : Img = moved_image i (moves_in is k) (spots_in is) (slid_of is 0) in
-      let cached : cached_image (cache_of is) k ≡ Some image = in_cache is ready k i own.1 own.2 (alone k i own.1 own.2) in (
-        image,
-        cached,
-        subst (λ (m : Linked). ImageCorresponds m (linked k image) (loaded (linked_set is) slides k m) (mapped (cache_of is) slide)
-            (loaded_starts (linked_set is) slides) (mapped_starts (cached_image (cache_of is)) slide) (slides k) slide) (sym own.3)
-            (image_corresponds is ready k i own.1 own.2 slides slide (cached_image (cache_of is)) cached),
-      );
+  count = count_is is ready;
+  paths = λ k i member. path_is is ready k i (slice_get_within is k i member) (sym (get_or_from_slice_get is k i i member));
+  images = λ k i member.
+      let lt : k < length is = slice_get_within is k i member in
+      let at : i ≡ get_or is k i = sym (get_or_from_slice_get is k i i member) in
+      let cached = in_cache is ready k i lt at (alone k i lt at) in
+      (_, cached, image_corresponds is ready k i lt at slides slide cached);
 }
 
 -- ---- sets that break no rule

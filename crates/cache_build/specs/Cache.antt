@@ -13,10 +13,9 @@ use Rattle.cache_layout.specs.declared.mapping.Mapping.TheVariants.{Text, Writab
 use Rattle.cache_layout.specs.Parts.{mapping_part}
 use Rattle.slide_chain.specs.Info.{info_bytes}
 use Rattle.slide_chain.specs.Making.{info_of}
-use Rattle.load_model.specs.Linking.{places, linked_data}
 use Rattle.cache_build.specs.Places.{slide_size, linkedit_place, linkedit_size}
 use Rattle.cache_build.specs.Head.{head_of}
-use Rattle.cache_build.specs.Pointers.{pointers_of}
+use Rattle.cache_build.specs.Pointers.{pointers_of, places, with_pointers}
 
 -- a stream or table that an image doesn't have
 abbrev pub no_spot : Span
@@ -84,7 +83,7 @@ parts_joined head text writable fixed rest = head ++ (text ++ (writable ++ (fixe
 -- the cache where the images have these bytes in their segments and these pointers in their data
 abbrev pub cache_with : Laid → List ℕ → (ℕ → ℕ → List ℕ) → List Img → List Edit → List ℕ
 cache_with l head pages images pointers =
-    parts_joined (padded l.text.at head) (mapping_part Text pages images) (linked_data pointers (mapping_part Writable pages images)) (mapping_part Fixed pages images) (tail_of l pointers)
+    parts_joined (padded l.text.at head) (mapping_part Text pages images) (with_pointers pointers (mapping_part Writable pages images)) (mapping_part Fixed pages images) (tail_of l pointers)
 
 -- the segments stand by mapping, image and command; the data's pointers lead where they led in the files
 unfoldable pub cache_from : Laid → List Img → List ℕ

@@ -2,17 +2,16 @@
 ghost use Rattle.std.specs.Prelude.{◌≡◌, ◌≤◌, ◌%◌, ◌++◌, map, length, IfOk, OnOk, IfErr};
 ghost use Rattle.dsc_base.specs.declared.fault.SetFault.TheVariants.{Memory};
 ghost use Rattle.prebind.specs.Sets.{lists_of};
-ghost use Rattle.load_model.specs.Linking.{places, ArePointers, linked_data};
 ghost use Rattle.slide_chain.specs.Info.{info_bytes};
 ghost use Rattle.slide_chain.specs.Making.{info_of, linking};
 ghost use Rattle.dsc_base.specs.Edits.{change_all};
 ghost use Rattle.cache_layout.specs.declared.mapping.Mapping.TheVariants.{Writable};
 ghost use Rattle.cache_layout.specs.Parts.{mapping_part};
 ghost use Rattle.cache_build.specs.Places.{frame_of};
-ghost use Rattle.cache_build.specs.Pointers.{pointers_of};
+ghost use Rattle.cache_build.specs.Pointers.{pointers_of, places, with_pointers};
 ghost use Rattle.cache_build.specs.Cache.{headers_of, all_pages, cache_from, slide_bytes};
 ghost use Rattle.cache_build.specs.Fits.{AreSized, HasMoves, CanAssemble};
-ghost use Rattle.cache_build.specs.Setting.{AreRead, CanChain, CanLink};
+ghost use Rattle.cache_build.specs.Setting.{AreRead, AllLeadToPlaces, ArePointers, CanChain, CanLink};
 
 use crate::frame::Frame;
 use crate::head::cache_head;
@@ -68,10 +67,10 @@ fn link_data<R: Threads + Sync>(
     requires moves { HasMoves layout.now images.now }
     requires streams { streams.now ≡ map lists_of images.now }
     requires read { AreRead images.now }
-    requires pages { length area.old % 4096 ≡ 0 }
+    requires led { AllLeadToPlaces images.now }
     requires room { length area.old ≤ 0x2000_0000 }
     requires pointers { ArePointers (length area.old) (pointers_of layout.now images.now) }
-    ensures linked { OnOk result (area.new ≡ linked_data (pointers_of layout.now images.now) area.old) }
+    ensures linked { OnOk result (area.new ≡ with_pointers (pointers_of layout.now images.now) area.old) }
     ensures info { IfOk result (λ v. v.items ≡ info_bytes (info_of 16 (length area.old) (places (pointers_of layout.now images.now)))) }
     ensures cause { IfErr result (λ e. e ≡ Memory) }
 {
@@ -97,7 +96,7 @@ fn append_data<R: Threads + Sync>(
     requires streams { streams.now ≡ map lists_of images.now }
     requires headers { map (λ h. h.items) headers.now ≡ headers_of layout.now images.now }
     requires sizes { AreSized (map (λ h. h.items) headers.now) images.now }
-    ensures appended { OnOk result (cache.new.items ≡ cache.old.items ++ linked_data (pointers_of layout.now images.now) (mapping_part Writable (all_pages (map (λ h. h.items) headers.now) images.now) images.now)) }
+    ensures appended { OnOk result (cache.new.items ≡ cache.old.items ++ with_pointers (pointers_of layout.now images.now) (mapping_part Writable (all_pages (map (λ h. h.items) headers.now) images.now) images.now)) }
     ensures info { IfOk result (λ v. v.items ≡ slide_bytes layout.now (pointers_of layout.now images.now)) }
     ensures cause { IfErr result (λ e. e ≡ Memory) }
 {

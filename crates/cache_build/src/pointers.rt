@@ -3,12 +3,10 @@ ghost use Rattle.std.specs.Prelude.{◌≡◌, ◌≤◌, ◌<◌, ◌++◌, [],
 ghost use Rattle.std.specs.List.Sorted.{IsNonDecreasingBy};
 ghost use Rattle.dsc_base.specs.Edits.{AllInside, put_all};
 ghost use Rattle.macho_image.specs.Segments.{contains};
-ghost use Rattle.load_model.specs.Linking.{places};
-ghost use Rattle.load_model.specs.Pointers.{rebases_in};
 ghost use Rattle.prebind.specs.Sets.{lists_of};
-ghost use Rattle.cache_build.specs.Pointers.{moved_number, image_pointers, pointers_of};
+ghost use Rattle.cache_build.specs.Pointers.{rebases_in, moved_number, image_pointers, pointers_of, places};
 ghost use Rattle.rebase_ops.specs.Rebases.{AreRebases};
-ghost use Rattle.cache_build.specs.Setting.{edit_in, all_edits, Belong, AreRead};
+ghost use Rattle.cache_build.specs.Setting.{edit_in, all_edits, Belong, AreRead, LeadToPlaces, AllLeadToPlaces};
 ghost use Rattle.cache_build.specs.Fits.{HasMoves};
 
 use cache_layout::Layout;
@@ -45,7 +43,6 @@ fn pointers_in<'r>(pointers: &'r [Location], segment: &Segment<'_>) -> &'r [Loca
 
 /// The number of a pointer in the cache, by the place to which it leads in its image; a number that leads
 /// nowhere stays as it is.
-#[tactic(auto, unfolding(load_model::specs::Memory::wrap))]
 fn moved_number(moves: &[Moved], place: Option<Inside>, number: u64) -> u64
     ensures { result ≡ moved_number moves.now place number }
 {
@@ -124,6 +121,7 @@ fn set_in_image(
     requires one_each { length (slice_index_or layout.now.moves number []) ≡ length image.now.segments }
     requires pointers { pointers.now ≡ rebases_in image.now }
     requires read { AreRebases image.now pointers.now }
+    requires led { LeadToPlaces number image.now }
     requires room { AllInside (length area.old) (image_pointers layout.now number image.now) }
     ensures set { OnOk result (area.new ≡ put_all (image_pointers layout.now number image.now) area.old) }
     ensures words { OnOk result (words.new.items ≡ words.old.items ++ places (image_pointers layout.now number image.now)) }
@@ -164,6 +162,7 @@ pub fn set_pointers(
     requires one_each { HasMoves layout.now images.now }
     requires streams { streams.now ≡ map lists_of images.now }
     requires read { AreRead images.now }
+    requires led { AllLeadToPlaces images.now }
     requires room { AllInside (length area.old) (pointers_of layout.now images.now) }
     ensures set { OnOk result (area.new ≡ put_all (pointers_of layout.now images.now) area.old) }
     ensures words { IfOk result (λ v. v.items ≡ places (pointers_of layout.now images.now)) }

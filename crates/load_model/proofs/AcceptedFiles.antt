@@ -1,5 +1,5 @@
 -- What files have that break no rule of the first four phases.
-use Rattle.std.proofs.Common.{◌≡◌, ◌<◌, ℕ, Option, None, List, length, refl}
+use Rattle.std.proofs.Common.{◌≡◌, ℕ, None, List, length}
 use Rattle.dsc_base.specs.Refusals.{in_each}
 use Rattle.macho_image.specs.Records.{Img}
 use Rattle.dep_closure.specs.Breaks.{link_break}

@@ -2,7 +2,8 @@
 use Rattle.std.proofs.Common.{◌≡◌, ◌≤◌, ◌<◌, ℕ, ◌+◌, ◌-◌, ◌^◌, nat_lt, if◌then◌else◌, Some, List, length, get_or, ap, ◌∙◌, arith}
 use Rattle.std.specs.Prelude.{slice_index}
 use Rattle.std.proofs.lemmas.Bool.{cond-true, cond-false, lt-ltb, le-ltb}
-use Rattle.load_model.specs.Memory.{Cells, wrap, above, with_bytes}
+use Rattle.macho_image.specs.Places.{wrap, above}
+use Rattle.load_model.specs.Memory.{Cells, with_bytes}
 
 -- a byte at a distance from the start of bytes
 pub cell_at : (start x d : ℕ) (bytes : List ℕ) (cells : Cells) → above start x ≡ d → d < length bytes → with_bytes start bytes cells x ≡ Some (get_or bytes d 0)
@@ -20,10 +21,10 @@ cell_behind start x d bytes cells is le =
 
 -- how far an address lies above a start that isn't above it, both slid
 pub distance_is : (start d slide : ℕ) → d < 2 ^ 64 → above (wrap (start + slide)) (wrap (start + d + slide)) ≡ d
-unfolding above wrap
+unfolding above
 distance_is start d slide small = omega arith
 
 -- and above one that is
 pub distance_below : (start x slide : ℕ) → x < start → start < 2 ^ 64 → above (wrap (start + slide)) (wrap (x + slide)) ≡ 2 ^ 64 - (start - x)
-unfolding above wrap
+unfolding above
 distance_below start x slide below small = omega arith

@@ -1,7 +1,6 @@
 pub mod AcceptLaws
 pub mod AcceptedFiles
 pub mod CellLaws
-pub mod ChainLaws
 pub mod FilesLaws
 pub mod FirstLaws
 pub mod LinkeditLaws
@@ -10,7 +9,6 @@ pub mod MappedLaws
 pub mod NumberLaws
 pub mod PlacedLaws
 pub mod PlainLaws
-pub mod PointerLaws
 pub mod RebasedLaws
 pub mod SetLaws
 pub mod ShapeLaws

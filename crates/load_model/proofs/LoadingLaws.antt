@@ -5,8 +5,9 @@ use Rattle.std.proofs.lemmas.Bool.{cases_lt}
 use Rattle.std.proofs.Math.ListN.{get_or-append}
 use Rattle.std.proofs.lemmas.List.{length-replicate, get_or-append_right, get_or_past}
 use Rattle.macho_image.specs.Records.{Seg}
-use Rattle.load_model.specs.Memory.{Cells, wrap, above, with_bytes}
-use Rattle.load_model.specs.Loading.{in_memory, segments_at}
+use Rattle.macho_image.specs.Places.{wrap, above}
+use Rattle.load_model.specs.Memory.{Cells, with_bytes}
+use Rattle.load_model.specs.Loading.{in_memory, segment_cells}
 use Rattle.load_model.proofs.CellLaws.{cell_at, cell_behind, distance_is, distance_below}
 
 -- no address is in both segments
@@ -85,16 +86,16 @@ passed s t slide d cells low other apart lt =
 
 -- a byte of a segment, as it is loaded
 pub loaded_cell : (slide d g : ℕ) (t : Seg) (ss : List Seg) → AreApart ss → slice_get ss g ≡ Some t → d < t.vmsize
-    → segments_at slide ss (wrap (t.vmaddr + d + slide)) ≡ Some (get_or (in_memory t) d 0)
-unfolding segments_at
+    → segment_cells slide ss (wrap (t.vmaddr + d + slide)) ≡ Some (get_or (in_memory t) d 0)
+unfolding segment_cells
 loaded_cell slide d g t [] apart got lt = absurd (cc)
 loaded_cell slide d zero t (s ∷ ss) apart got lt =
     let is : t ≡ s = cc in
     let low : IsLow t = subst IsLow (sym is) apart.0 in
-    ap (λ (u : Seg). with_bytes (wrap (u.vmaddr + slide)) (in_memory u) (segments_at slide ss) (wrap (t.vmaddr + d + slide))) (sym is)
-    ∙ cell_at (wrap (t.vmaddr + slide)) (wrap (t.vmaddr + d + slide)) d (in_memory t) (segments_at slide ss)
+    ap (λ (u : Seg). with_bytes (wrap (u.vmaddr + slide)) (in_memory u) (segment_cells slide ss) (wrap (t.vmaddr + d + slide))) (sym is)
+    ∙ cell_at (wrap (t.vmaddr + slide)) (wrap (t.vmaddr + d + slide)) d (in_memory t) (segment_cells slide ss)
     (distance_is t.vmaddr d slide (let below : t.vmaddr + t.vmsize ≤ 0x800000000000 = low.low in omega (arith, below, lt)))
     (omega (arith, length-in_memory t low, lt))
 loaded_cell slide d (suc g) t (s ∷ ss) apart got lt =
-    passed s t slide d (segments_at slide ss) apart.0 (low_at g t ss apart.2 got) (apart_from s t g ss apart.1 got) lt
+    passed s t slide d (segment_cells slide ss) apart.0 (low_at g t ss apart.2 got) (apart_from s t g ss apart.1 got) lt
     ∙ loaded_cell slide d g t ss apart.2 got lt

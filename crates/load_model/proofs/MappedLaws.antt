@@ -7,7 +7,8 @@ use Rattle.std.proofs.Math.ListN.{get_or-append}
 use Rattle.slide_chain.specs.Chains.{slid_area}
 use Rattle.slide_chain.specs.Info.{info_read}
 use Rattle.dsc_base.specs.Region.{region_start}
-use Rattle.load_model.specs.Memory.{Cells, wrap, above}
+use Rattle.macho_image.specs.Places.{wrap, above}
+use Rattle.load_model.specs.Memory.{Cells}
 use Rattle.cache_header.specs.declared.head.Mapping.{Mapping}
 use Rattle.cache_header.specs.Reading.{mappings_of, slide_info_bytes}
 use Rattle.load_model.specs.Mapped.{three_mappings, Piece, piece_of, with_slid_data, pieces_of, cells_of, mapped, flat}

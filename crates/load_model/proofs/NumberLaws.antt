@@ -4,12 +4,12 @@ use Rattle.std.proofs.Common.{◌≡◌, ◌≤◌, ◌<◌, ◌⊎◌, ℕ, zer
 use Rattle.std.specs.Prelude.{Option, unwrap_or}
 use Rattle.dsc_base.specs.Numbers.{little_number, little_bytes}
 use Rattle.dsc_base.proofs.NumberLaws.{little_from-same, length-little_bytes}
-use Rattle.load_model.specs.Memory.{Cells, wrap, above, with_number, bytes_from, number_from, HasNumber}
+use Rattle.macho_image.specs.Places.{wrap, above}
+use Rattle.load_model.specs.Memory.{Cells, with_number, bytes_from, number_from, HasNumber}
 use Rattle.load_model.proofs.CellLaws.{cell_at, cell_behind, distance_is, distance_below}
 
 -- the address k above another one
 pub address_on : (y slide k : ℕ) → wrap (wrap (y + slide) + k) ≡ wrap (y + k + slide)
-unfolding wrap
 address_on y slide k = omega arith
 
 -- ---- what a number that is put leaves

@@ -96,10 +96,10 @@ unfolding streams_of
 streams_none b header split none =
     elim (command_where is_dyld_info (commands_of header)) as (λ o. command_where is_dyld_info (commands_of header) ≡ o → StreamsNone b header) [
       | None ↦ λ found. record {
-          bind = ap (λ (o : Option (List ℕ)). part_in b o 1 16 20) found;
-          lazy = ap (λ (o : Option (List ℕ)). part_in b o 1 32 36) found;
-          exports = ap (λ (o : Option (List ℕ)). part_in b o 1 40 44) found;
-        }
+        bind = ap (λ (o : Option (List ℕ)). part_in b o 1 16 20) found;
+        lazy = ap (λ (o : Option (List ℕ)). part_in b o 1 32 36) found;
+        exports = ap (λ (o : Option (List ℕ)). part_in b o 1 40 44) found;
+      }
       | Some c ↦ λ found.
           let names : NamesNone c = names_none split c (first_built is_dyld_info split 32 (commands_of header) c none found) in
           record {
@@ -138,11 +138,11 @@ split_none split c is =
     let number : number_of c ≡ 0x1E = eqb-true (number_of c) 0x1E is.kind in
     let built : not (same_bytes split (0x7F ∷ 0 ∷ [])) ≡ false =
     sym (ap (λ (n : ℕ). if is_dyld_info n then names_streams c else
-        (if is_some (link_kind n) then true else
-        (if is_split_info n then not (same_bytes split (0x7F ∷ 0 ∷ [])) else
-        (if is_symtab n then is_set c 12 || is_set c 20 else
-        (if is_dysymtab n then names_symbols c else
-        (if is_function_starts n || is_data_in_code n then is_set c 12 else false)))))) number) ∙ is.built in
+    (if is_some (link_kind n) then true else
+    (if is_split_info n then not (same_bytes split (0x7F ∷ 0 ∷ [])) else
+    (if is_symtab n then is_set c 12 || is_set c 20 else
+    (if is_dysymtab n then names_symbols c else
+    (if is_function_starts n || is_data_in_code n then is_set c 12 else false)))))) number) ∙ is.built in
     (bytes_decides split (0x7F ∷ 0 ∷ [])).0 (not_false (same_bytes split (0x7F ∷ 0 ∷ [])) built)
 
 no_references : (b header : List ℕ) (i : Img) → first_load (λ l. is_unbuilt (unwrap_or (streams_of b (commands_of header)).split []) l.bytes) (loads_of header) ≡ None
@@ -176,7 +176,7 @@ loads_none : (file : List ℕ) → not_yet_of file ≡ None → first_load (λ l
 unfolding breaks_not_yet
 loads_none file none =
     elim (is_unsplit_header (header_in file 0)) as (λ b. (if b then Some 0 else first_load (λ l. is_unbuilt (unwrap_or (image_of file 0).streams.split []) l.bytes) (loads_of (header_in file 0))) ≡ None
-        → first_load (λ l. is_unbuilt (unwrap_or (image_of file 0).streams.split []) l.bytes) (loads_of (header_in file 0)) ≡ None) [
+    → first_load (λ l. is_unbuilt (unwrap_or (image_of file 0).streams.split []) l.bytes) (loads_of (header_in file 0)) ≡ None) [
       | true ↦ λ some. absurd (cc)
       | false ↦ λ is. is
     ] none

@@ -9,14 +9,13 @@ use Rattle.std.proofs.lemmas.Option.{slice_get-map, slice_get_within, get_or_fro
 use Rattle.macho_image.specs.Records.{Seg, Img}
 use Rattle.macho_image.specs.declared.place.Location.{Location}
 use Rattle.dsc_base.specs.Numbers.{number_at}
-use Rattle.macho_image.specs.Segments.{number_of}
+use Rattle.macho_image.specs.Segments.{number_of, number_within, value_of}
 use Rattle.macho_image.specs.Order.{addresses_of}
-use Rattle.macho_image.specs.Places.{IsWord}
+use Rattle.macho_image.specs.Places.{wrap, IsWord}
 use Rattle.rebase_ops.specs.Rebases.{AreRebases}
 use Rattle.slide_chain.specs.Making.{AreWords, AllBelow}
-use Rattle.load_model.specs.Memory.{Cells, wrap, with_number, number_from, HasNumber}
-use Rattle.load_model.specs.Pointers.{value_in, value_of}
-use Rattle.load_model.specs.Loading.{segments_at, rebased}
+use Rattle.load_model.specs.Memory.{Cells, with_number, number_from, HasNumber}
+use Rattle.load_model.specs.Loading.{segment_cells, rebased}
 use Rattle.load_model.proofs.LoadingLaws.{IsLow, AreApart, low_at, in_memory-byte, loaded_cell}
 use Rattle.load_model.proofs.NumberLaws.{address_on, number_there, byte_apart, number_from-bytes, number_apart}
 
@@ -107,27 +106,27 @@ pub rebases_low : (image : Img) (ls : List Location) → AreApart image.segments
 rebases_low image ls apart rebases = words_low image ls apart rebases.all
 
 -- a word of an image that is loaded has the number that it has in the file
-pub loaded_number : (slide : ℕ) (image : Img) (l : Location) → AreApart image.segments → IsWord image l → number_from 8 (segments_at slide image.segments) (wrap (l.address + slide)) ≡ value_of image l
+pub loaded_number : (slide : ℕ) (image : Img) (l : Location) → AreApart image.segments → IsWord image l → number_from 8 (segment_cells slide image.segments) (wrap (l.address + slide)) ≡ value_of image.segments l
 unfolding value_of number_of number_at
 loaded_number slide image l apart word =
     let s : Seg = word.segment in
     let d : ℕ = l.address - word.segment.vmaddr in
-    number_from-bytes 8 l.address slide (segments_at slide image.segments) (drop d s.bytes)
+    number_from-bytes 8 l.address slide (segment_cells slide image.segments) (drop d s.bytes)
     (λ k lt.
     let place : l.address + k + slide ≡ word.segment.vmaddr + (l.address - word.segment.vmaddr + k) + slide = omega (arith, word.from) in
-    ap (λ (x : ℕ). unwrap_or (segments_at slide image.segments (wrap x)) 0) place
+    ap (λ (x : ℕ). unwrap_or (segment_cells slide image.segments (wrap x)) 0) place
     ∙ (ap (λ (o : Option ℕ). unwrap_or o 0) (loaded_cell slide (d + k) l.segment s image.segments apart word.segment_is (omega (arith, lt, word.from, word.to)))
     ∙ (in_memory-byte s (d + k) ∙ sym (get_or-drop d s.bytes k 0))))
-    ∙ ap (λ (o : Option Seg). value_in o l.address) (sym word.segment_is)
+    ∙ ap (λ (o : Option Seg). number_within 8 o l.address) (sym word.segment_is)
 
 -- each rebased word leads where the file's leads, raised by the slide
 pub rebased_word : (slide i : ℕ) (image : Img) (ls : List Location) (l : Location) → AreApart image.segments → AreRebases image ls → slice_get ls i ≡ Some l
-    → HasNumber 8 (rebased slide (addresses_of ls) (segments_at slide image.segments)) (wrap (l.address + slide)) (wrap (value_of image l + slide))
+    → HasNumber 8 (rebased slide (addresses_of ls) (segment_cells slide image.segments)) (wrap (l.address + slide)) (wrap (value_of image.segments l + slide))
 rebased_word slide i image ls l apart rebases got =
     let word : IsWord image l = subst (IsWord image) (get_or_from_slice_get ls i l l got) (All-get_or (IsWord image) ls i l (slice_get_within ls i l got) rebases.all) in
     let there : slice_get (addresses_of ls) i ≡ Some l.address = slice_get-map (λ (x : Location). x.address) ls i ∙ ap (λ (o : Option Location). option_map (λ (x : Location). x.address) o) got in
-    subst (λ (n : ℕ). HasNumber 8 (rebased slide (addresses_of ls) (segments_at slide image.segments)) (wrap (l.address + slide)) (wrap (n + slide))) (loaded_number slide image l apart word)
-    (raised_word slide 0 i l.address (addresses_of ls) (segments_at slide image.segments) (rebase_words image ls rebases) (rebases_low image ls apart rebases) there)
+    subst (λ (n : ℕ). HasNumber 8 (rebased slide (addresses_of ls) (segment_cells slide image.segments)) (wrap (l.address + slide)) (wrap (n + slide))) (loaded_number slide image l apart word)
+    (raised_word slide 0 i l.address (addresses_of ls) (segment_cells slide image.segments) (rebase_words image ls rebases) (rebases_low image ls apart rebases) there)
 
 -- ---- the other bytes
 
@@ -143,6 +142,6 @@ in_none y (l ∷ ls) none = (
 
 pub rebased_other : (slide y : ℕ) (image : Img) (ls : List Location) → AreApart image.segments → AreRebases image ls → y < 2 ^ 47
     → ((i : ℕ) (l : Location) → slice_get ls i ≡ Some l → l.address ≤ y → y < l.address + 8 → ⊥)
-    → rebased slide (addresses_of ls) (segments_at slide image.segments) (wrap (y + slide)) ≡ segments_at slide image.segments (wrap (y + slide))
+    → rebased slide (addresses_of ls) (segment_cells slide image.segments) (wrap (y + slide)) ≡ segment_cells slide image.segments (wrap (y + slide))
 rebased_other slide y image ls apart rebases low none =
-    free_byte slide y (addresses_of ls) (segments_at slide image.segments) (omega (arith, low)) (rebases_low image ls apart rebases) (in_none y ls none)
+    free_byte slide y (addresses_of ls) (segment_cells slide image.segments) (omega (arith, low)) (rebases_low image ls apart rebases) (in_none y ls none)

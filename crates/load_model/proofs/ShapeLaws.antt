@@ -6,7 +6,7 @@ use Rattle.dsc_base.specs.Numbers.{big_number}
 use Rattle.macho_image.specs.declared.section.Section.{Section}
 use Rattle.macho_image.specs.Records.{Img, Seg}
 use Rattle.macho_image.specs.Rules.{is_linkedit_name, is_linkedit_segment}
-use Rattle.load_model.specs.Memory.{above}
+use Rattle.macho_image.specs.Places.{above}
 use Rattle.load_model.specs.Corresponds.{section_shape, sections_of, segment_shape, shapes_from, shape_of}
 
 -- segments keep their names, and all but `__LINKEDIT` size and protection; the functions tell where those of each number start

@@ -1,11 +1,8 @@
 pub mod Corresponds
-pub mod Linking
 pub mod Loading
 pub mod Mapped
 pub mod Memory
 pub mod NotYet
 pub mod Phases
 pub mod Placed
-pub mod Pointers
 pub mod Sums
-pub mod Words

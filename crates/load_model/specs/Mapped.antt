@@ -7,7 +7,8 @@ use Rattle.macho_image.specs.Breaks.{image_at}
 use Rattle.macho_image.specs.declared.form.Form.TheVariants.{Cached}
 use Rattle.slide_chain.specs.Chains.{Slide, slid_area}
 use Rattle.slide_chain.specs.Info.{info_read}
-use Rattle.load_model.specs.Memory.{Cells, nowhere, wrap, above, with_bytes}
+use Rattle.macho_image.specs.Places.{wrap, above}
+use Rattle.load_model.specs.Memory.{Cells, nowhere, with_bytes}
 use Rattle.cache_header.specs.declared.head.Mapping.{Mapping}
 use Rattle.cache_header.specs.Reading.{mappings_of, image_address, slide_info_bytes}
 

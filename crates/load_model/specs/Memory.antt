@@ -1,19 +1,13 @@
 -- Memory as a map from addresses to bytes. An address is a number below 2 ^ 64, and sums of addresses wrap.
-use Rattle.std.specs.Prelude.{◌≡◌, ◌<◌, ℕ, zero, suc, ◌+◌, ◌-◌, ◌%◌, ◌^◌, nat_lt, if◌then◌else◌, Option, Some, None, unwrap_or, List, [], ◌∷◌, length, slice_index}
+use Rattle.std.specs.Prelude.{◌≡◌, ◌<◌, ℕ, zero, suc, ◌+◌, nat_lt, if◌then◌else◌, Option, Some, None, unwrap_or, List, [], ◌∷◌, length, slice_index}
 use Rattle.dsc_base.specs.Numbers.{little_number, little_bytes}
+use Rattle.macho_image.specs.Places.{wrap, above}
 
 abbrev pub Cells : Type 0
 Cells = ℕ → Option ℕ
 
 abbrev pub nowhere : Cells
 nowhere x = None
-
-unfoldable pub wrap : ℕ → ℕ
-wrap n = n % 2 ^ 64
-
--- how far the address x lies above the address a
-unfoldable pub above : ℕ → ℕ → ℕ
-above a x = (x + (2 ^ 64 - a)) % 2 ^ 64
 
 -- the bytes from an address on, over what else is there
 unfoldable pub with_bytes : ℕ → List ℕ → Cells → Cells

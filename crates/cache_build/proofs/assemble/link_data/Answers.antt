@@ -1,15 +1,14 @@
 use Rattle.std.proofs.Common.{length, ◌∙◌}
-use Rattle.load_model.specs.Linking.{places}
-use Rattle.cache_build.specs.Pointers.{pointers_of}
-use Rattle.cache_build.proofs.LinkLaws.{pointers_room, pointers_chain, data_linked, info_told}
+use Rattle.cache_build.specs.Pointers.{pointers_of, places}
+use Rattle.cache_build.proofs.LinkLaws.{pointers_chain, data_linked, info_told}
 use Rattle.cache_build.proofs.assemble.link_data.Goals as goal
 
 pub set_pointers-requires-clause-room : goal.set_pointers-requires-clause-room
-set_pointers-requires-clause-room g c = pointers_room (length c.args.area.now) (pointers_of c.args.layout.now c.args.images.now) c.requires.pages c.requires.pointers
+set_pointers-requires-clause-room g c = c.requires.pointers.inside
 
 pub link-requires-clause-chain : goal.link-requires-clause-chain
 link-requires-clause-chain g c =
-    λ _ _. pointers_chain c.args.area.now c.set_pointers.new.area c.deref.result.now (pointers_of c.args.layout.now c.args.images.now) c.requires.pages c.requires.room c.requires.pointers c.in_ok-words.ensures.set
+    λ _ _. pointers_chain c.args.area.now c.set_pointers.new.area c.deref.result.now (pointers_of c.args.layout.now c.args.images.now) c.requires.room c.requires.pointers c.in_ok-words.ensures.set
     (c.deref.ensures.value ∙ c.in_ok-words.ensures.words)
 
 pub returns-clause-linked : goal.returns-clause-linked

@@ -1,6 +1,6 @@
 use Rattle.std.proofs.Common.{◌≡◌, ◌++◌, take}
 use Rattle.dsc_base.specs.Edits.{put_all}
-use Rattle.load_model.specs.Linking.{places}
+use Rattle.cache_build.specs.Pointers.{places}
 use Rattle.cache_build.specs.Setting.{all_edits}
 use Rattle.cache_build.proofs.pointers.set_in_segments.Given as goal
 

@@ -6,8 +6,7 @@ use Rattle.macho_image.specs.Records.{Img}
 use Rattle.macho_image.specs.declared.place.Location.{Location}
 use Rattle.rebase_ops.specs.Rebases.{AreRebases}
 use Rattle.prebind.specs.Sets.{StreamLists}
-use Rattle.load_model.specs.Linking.{places}
-use Rattle.cache_build.specs.Pointers.{image_pointers, pointers_of}
+use Rattle.cache_build.specs.Pointers.{image_pointers, pointers_of, places}
 use Rattle.cache_build.proofs.SetPointerLaws.{put_none, edits_inside, all_set_more, all_placed_more}
 use Rattle.cache_build.proofs.ReadSets.{stream_at}
 use Rattle.cache_build.proofs.pointers.set_pointers.Goals as goal
@@ -48,6 +47,10 @@ set_in_image-requires-clause-read c =
     ∙ stream_at c.args.images.now c.args.streams.now c.loop-number.number c.index-images-number.result c.index-streams-number.result c.requires.streams c.loop-number-test.true c.index-images-number.is c.index-streams-number.is) in
     subst (λ (ws : List Location). AreRebases i ws) (sym found)
     (c.requires.read c.loop-number.number i (slice_get_read c.args.images.now (length c.args.images.now) c.loop-number.number i refl c.loop-number-test.true c.index-images-number.is))
+
+pub set_in_image-requires-clause-led : goal.set_in_image-requires-clause-led
+set_in_image-requires-clause-led c =
+    c.requires.led c.loop-number.number c.index-images-number.result (slice_get_read c.args.images.now (length c.args.images.now) c.loop-number.number c.index-images-number.result refl c.loop-number-test.true c.index-images-number.is)
 
 pub set_in_image-requires-clause-room : goal.set_in_image-requires-clause-room
 unfolding pointers_of

@@ -1,7 +1,6 @@
 use Rattle.std.proofs.Common.{◌≡◌, take}
 use Rattle.dsc_base.specs.Edits.{put_all}
-use Rattle.load_model.specs.Linking.{places}
-use Rattle.cache_build.specs.Pointers.{pointers_of}
+use Rattle.cache_build.specs.Pointers.{pointers_of, places}
 use Rattle.cache_build.proofs.pointers.set_pointers.Given as goal
 
 abbrev pub invariant-loop-number : goal.invariant-loop-number
