@@ -3,6 +3,7 @@ pub mod AcceptedFiles
 pub mod CellLaws
 pub mod FilesLaws
 pub mod FirstLaws
+pub mod FirstLoads
 pub mod LinkeditLaws
 pub mod LoadingLaws
 pub mod MappedLaws
@@ -15,4 +16,3 @@ pub mod ShapeLaws
 pub mod SoundSets
 pub mod SumLaws
 pub mod Unbroken
-pub mod WalkLaws

@@ -5,6 +5,7 @@ ghost use Rattle.macho_image.specs.Rules.{breaks_command_shape, first_load, leas
 ghost use Rattle.load_model.specs.NotYet.{is_set, names_streams, names_symbols, is_unbuilt, is_universal};
 
 use dsc_base::get_u32;
+use macho_image::Commands;
 
 /// FAT_MAGIC as a little-endian number.
 const UNIVERSAL_MAGIC: u32 = 0xBEBA_FECA;
@@ -80,13 +81,10 @@ pub fn unbuilt_command(header: &[u8], split: &[u8]) -> Option<u64>
     requires shape { breaks_command_shape header.now ≡ None }
     ensures { result ≡ first_load (λ l. is_unbuilt split.now l.bytes) (loads_of header.now) }
 {
-    let mut at = 32;
-    for _number in 0..get_u32(header, 16) {
-        let size = get_u32(header, at + 4) as usize;
-        if is_unbuilt(&header[at..at + size], split) {
-            return Some(at as u64);
+    for command in Commands::new(header) {
+        if is_unbuilt(command.bytes, split) {
+            return Some(command.at);
         }
-        at += size;
     }
     None
 }
