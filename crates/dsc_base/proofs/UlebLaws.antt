@@ -1,8 +1,8 @@
 -- Laws of variable-length numbers.
-use Rattle.std.proofs.Common.{◌≡◌, ◌≤◌, ◌<◌, ℕ, zero, suc, ◌+◌, ◌*◌, ◌-◌, ◌/◌, ◌%◌, ◌^◌, List, [], ◌∷◌, ◌++◌, take, drop, length, get_or, set, append_assoc, refl, sym, ap, subst, ◌∙◌, arith, inl, inr}
+use Rattle.std.proofs.Common.{◌≡◌, ◌≤◌, ◌<◌, ℕ, zero, suc, ◌+◌, ◌*◌, ◌-◌, ◌/◌, ◌%◌, ◌^◌, List, [], ◌∷◌, ◌++◌, take, drop, length, get_or, set, append_assoc, length-append, refl, sym, ap, ap₂, subst, ◌∙◌, arith, inl, inr}
 use Rattle.std.specs.Prelude.{ℤ, pos, neg_ℤ, ◌↔◌, ◌-ℤ◌, ◌≤ℤ◌, ◌<ℤ◌, nat_lt, Result, Ok, Err}
 use Rattle.std.proofs.lemmas.Bool.{cond-true, cond-false, lt-ltb, le-ltb, ltb-true, cases_lt, cases_Bool}
-use Rattle.std.proofs.lemmas.List.{take_more_set, drop_at}
+use Rattle.std.proofs.lemmas.List.{take_more_set, drop_at, append-nil}
 use Rattle.std.proofs.lemmas.Int.{ints}
 use Rattle.dsc_base.specs.declared.fault.UlebFault.{UlebFault}
 use Rattle.dsc_base.specs.declared.fault.UlebFault.TheVariants.{Ended, TooWide}
@@ -436,3 +436,34 @@ length-uleb_bytes_ten value = length-shortest_some 9 value
 pub uleb_bytes-one : (value : ℕ) → value < 128 → uleb_bytes value ≡ value ∷ []
 unfolding uleb_bytes
 uleb_bytes-one value few = cond-true (nat_lt value 128) (value ∷ []) ((128 + value % 128) ∷ shortest 8 (value / 128)) (lt-ltb value 128 few)
+
+-- and one that was appended is read at its place, up to the end
+abbrev pub Appended : List ℕ → List ℕ → ℕ → Type 0
+Appended before after value = uleb_at after (length before) ≡ Ok (value, length after)
+
+uleb_at-appended : (before spelled : List ℕ) (value : ℕ) → uleb_at (spelled ++ []) 0 ≡ Ok (value, length spelled) → Appended before (before ++ spelled) value
+unfolding uleb_at
+uleb_at-appended before spelled value read =
+    uleb_at-behind before spelled (length before) refl
+    ∙ (placed-moves (length before) value (length spelled) (uleb 10 spelled) (ap (λ (l : List ℕ). placed 0 (uleb 10 l)) (sym (append-nil spelled)) ∙ read)
+    ∙ ap (λ (n : ℕ). let r : Result (ℕ × ℕ) UlebFault = Ok (value, n) in r) (sym (length-append before spelled)))
+  where
+    placed-moves : (at value len : ℕ) (r : Result (ℕ × ℕ) UlebFault) → placed 0 r ≡ Ok (value, len) → placed at r ≡ Ok (value, at + len)
+    placed-moves at value len (Err fault) read = absurd (cc)
+    placed-moves at value len (Ok p) read =
+        let e = ok-parts p.0 value (0 + p.1) len read in
+        ap₂ (λ (v n : ℕ). let r : Result (ℕ × ℕ) UlebFault = Ok (v, n) in r) e.0 (omega (arith, e.1))
+
+pub uleb_bytes-appended : (before after : List ℕ) (value : ℕ) → value < 2 ^ 64 → after ≡ before ++ uleb_bytes value → Appended before after value
+uleb_bytes-appended before after value small is =
+    subst (λ (l : List ℕ). Appended before l value) (sym is) (uleb_at-appended before (uleb_bytes value) value (uleb_read_back value small []))
+
+length-uleb4_bytes : (value : ℕ) → length (uleb4_bytes value) ≡ 4
+unfolding uleb4_bytes
+length-uleb4_bytes value = refl
+
+pub uleb4_bytes-appended : (before after : List ℕ) (value : ℕ) → value < 2 ^ 28 → after ≡ before ++ uleb4_bytes value → Appended before after value
+uleb4_bytes-appended before after value small is =
+    subst (λ (l : List ℕ). Appended before l value) (sym is)
+    (uleb_at-appended before (uleb4_bytes value) value
+    (uleb4_read_back value small [] ∙ ap (λ (n : ℕ). let r : Result (ℕ × ℕ) UlebFault = Ok (value, n) in r) (sym (length-uleb4_bytes value))))

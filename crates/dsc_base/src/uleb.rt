@@ -42,6 +42,8 @@ pub fn read_sleb(bytes: &[u8], at: usize) -> Result<(i64, usize), UlebFault>
 pub fn put_uleb(out: &mut Vec<u8>, value: u64) -> Result<(), NoMemory>
     ensures appended { OnOk result (out.new.items ≡ out.old.items ++ uleb_bytes value) }
     ensures unchanged { OnErr result (out.new.items ≡ out.old.items) }
+    // Read where it was appended it is the number, up to the end.
+    ensures reads_back { OnOk result (uleb_at out.new.items (length out.old.items) ≡ Ok (value, length out.new.items)) }
     // It is read back, whatever follows it, and no other bytes that are read so are fewer.
     ensures read_back { (rest : List ℕ) → uleb_at (uleb_bytes value ++ rest) 0 ≡ Ok (value, length (uleb_bytes value)) }
     ensures shortest { (bytes : List ℕ) (end : ℕ) → uleb_at bytes 0 ≡ Ok (value, end) → length (uleb_bytes value) ≤ end }
@@ -80,6 +82,8 @@ pub fn put_uleb4(out: &mut Vec<u8>, value: u32) -> Result<(), NoMemory>
     requires { value < 2 ^ 28 }
     ensures appended { OnOk result (out.new.items ≡ out.old.items ++ uleb4_bytes value) }
     ensures unchanged { OnErr result (out.new.items ≡ out.old.items) }
+    // Read where it was appended it is the number, up to the end.
+    ensures reads_back { OnOk result (uleb_at out.new.items (length out.old.items) ≡ Ok (value, length out.new.items)) }
 {
     out.extend_from_slice(&uleb4(value))?;
     Ok(())
