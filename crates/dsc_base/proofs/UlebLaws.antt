@@ -192,3 +192,9 @@ uleb4_bytes-appended before after value small is =
     subst (λ (l : List ℕ). Appended before l value) (sym is)
     (uleb_at-appended before (uleb4_bytes value) value
     (uleb4_read_back value small [] ∙ ap (λ (n : ℕ). let r : Result (ℕ × ℕ) UlebFault = Ok (value, n) in r) (sym (length-uleb4_bytes value))))
+
+-- a number between other bytes
+pub uleb_at-read : (before rest : List ℕ) (value at : ℕ) → length before ≡ at → value < 2 ^ 64 → uleb_at (before ++ (uleb_bytes value ++ rest)) at ≡ Ok (value, at + length (uleb_bytes value))
+unfolding uleb_bytes
+uleb_at-read before rest value at is small =
+    uleb_at-behind before (shortest 9 value ++ rest) at is ∙ ap (λ (r : Result (ℕ × ℕ) UlebFault). placed at r) (uleb-shortest 9 value rest (omega arith))
