@@ -1,3 +1,4 @@
+pub mod EffectLaws
 pub mod PlaceLaws
 pub mod RebaseLaws
 pub mod RiseLaws

@@ -1,5 +1,5 @@
 -- The opcodes that a written stream spells.
-use Rattle.std.proofs.Common.{◌≡◌, ◌≤◌, ◌<◌, ◌+◌, ◌-◌, ◌/◌, ◌%◌, ◌^◌, ℕ, zero, suc, false, List, [], ◌∷◌, ◌++◌, length, get_or, refl, sym, ap, ap₂, ◌∙◌, arith, append_assoc, length-append, nat_le, inl, inr}
+use Rattle.std.proofs.Common.{◌≡◌, ◌≤◌, ◌<◌, ◌+◌, ◌-◌, ◌/◌, ◌%◌, ◌^◌, ℕ, zero, suc, false, List, [], ◌∷◌, ◌++◌, length, get_or, refl, sym, ap, ap₂, ◌∙◌, arith, append_assoc, length-append, nat_le, if◌then◌else◌, inl, inr}
 use Rattle.std.specs.Prelude.{slice_index, Result, Ok}
 use Rattle.std.proofs.lemmas.Bool.{cond-true, cond-false, cases_lt, lt-leb, le-leb}
 use Rattle.std.proofs.lemmas.List.{get_or-append_right}
@@ -8,9 +8,7 @@ use Rattle.dsc_base.specs.Uleb.{uleb_at, uleb_bytes}
 use Rattle.dsc_base.proofs.UlebLaws.{uleb_at-read}
 use Rattle.macho_image.specs.Records.{Img}
 use Rattle.macho_image.specs.Streams.{Opcodes, End, Next, followed_by, opcodes_in}
-use Rattle.rebase_ops.specs.declared.opcode.Opcode.{Opcode}
-use Rattle.rebase_ops.specs.declared.opcode.Opcode.TheVariants.{Done, SetPlace, Record}
-use Rattle.rebase_ops.specs.Opcodes.{◌>>=◌, operand_in, operand_at, opcode_with, opcode_at, ends, spelling}
+use Rattle.rebase_ops.specs.Opcodes.{Opcode, Done, SetSegmentAndOffsetUleb, DoRebaseImmTimes, DoRebaseUlebTimes, ◌>>=◌, operand_in, operand_at, opcode_with, opcode_at, ends, spelling}
 use Rattle.rebase_ops.specs.Writing.{Run, offset_in, times_bytes, run_bytes, runs_bytes}
 
 -- the byte behind other bytes
@@ -37,37 +35,50 @@ abbrev Read : Type 0
 Read = Result (Opcode × ℕ) Rule
 
 set_there : (before tail : List ℕ) (g offset at : ℕ) → length before ≡ at → g < 16 → offset < 2 ^ 64
-    → opcode_at (before ++ ((0x20 + g) ∷ (uleb_bytes offset ++ tail))) at ≡ Ok (SetPlace g offset, at + 1 + length (uleb_bytes offset))
+    → opcode_at (before ++ ((0x20 + g) ∷ (uleb_bytes offset ++ tail))) at ≡ Ok (SetSegmentAndOffsetUleb g offset, at + 1 + length (uleb_bytes offset))
 unfolding opcode_with
 set_there before tail g offset at is low small =
     opcode_there (before ++ ((0x20 + g) ∷ (uleb_bytes offset ++ tail))) at 2 g (0x20 + g) (byte_there before (uleb_bytes offset ++ tail) (0x20 + g) at is) (omega arith) (omega arith)
-    ∙ ap (λ (r : Result (ℕ × ℕ) Rule). let q : Read = r >>= (λ o. Ok (SetPlace g o.0, o.1)) in q) (operand_there before tail (0x20 + g) offset at is small)
+    ∙ ap (λ (r : Result (ℕ × ℕ) Rule). let q : Read = r >>= (λ o. Ok (SetSegmentAndOffsetUleb g o.0, o.1)) in q) (operand_there before tail (0x20 + g) offset at is small)
 
-few_there : (before tail : List ℕ) (count at : ℕ) → length before ≡ at → count ≤ 15 → opcode_at (before ++ ((0x50 + count) ∷ tail)) at ≡ Ok (Record count 8, at + 1)
+few_there : (before tail : List ℕ) (count at : ℕ) → length before ≡ at → count ≤ 15 → opcode_at (before ++ ((0x50 + count) ∷ tail)) at ≡ Ok (DoRebaseImmTimes count, at + 1)
 unfolding opcode_with
 few_there before tail count at is few =
     opcode_there (before ++ ((0x50 + count) ∷ tail)) at 5 count (0x50 + count) (byte_there before tail (0x50 + count) at is) (omega arith) (omega arith)
 
 many_there : (before tail : List ℕ) (count at : ℕ) → length before ≡ at → count < 2 ^ 64
-    → opcode_at (before ++ (0x60 ∷ (uleb_bytes count ++ tail))) at ≡ Ok (Record count 8, at + 1 + length (uleb_bytes count))
+    → opcode_at (before ++ (0x60 ∷ (uleb_bytes count ++ tail))) at ≡ Ok (DoRebaseUlebTimes count, at + 1 + length (uleb_bytes count))
 unfolding opcode_with
 many_there before tail count at is small =
     opcode_there (before ++ (0x60 ∷ (uleb_bytes count ++ tail))) at 6 0 0x60 (byte_there before (uleb_bytes count ++ tail) 0x60 at is) refl refl
-    ∙ ap (λ (r : Result (ℕ × ℕ) Rule). let q : Read = r >>= (λ c. Ok (Record c.0 8, c.1)) in q) (operand_there before tail 0x60 count at is small)
+    ∙ ap (λ (r : Result (ℕ × ℕ) Rule). let q : Read = r >>= (λ c. Ok (DoRebaseUlebTimes c.0, c.1)) in q) (operand_there before tail 0x60 count at is small)
 
-times_there : (before tail : List ℕ) (count at : ℕ) → length before ≡ at → count < 2 ^ 64 → opcode_at (before ++ (times_bytes count ++ tail)) at ≡ Ok (Record count 8, at + length (times_bytes count))
+-- the opcode of so many records
+abbrev pub times_opcode : ℕ → Opcode
+times_opcode count = if nat_le count 15 then DoRebaseImmTimes count else DoRebaseUlebTimes count
+
+pub times_few : (count : ℕ) → count ≤ 15 → times_opcode count ≡ DoRebaseImmTimes count
+times_few count few = cond-true (nat_le count 15) (DoRebaseImmTimes count) (DoRebaseUlebTimes count) (le-leb count 15 few)
+
+pub times_many : (count : ℕ) → 15 < count → times_opcode count ≡ DoRebaseUlebTimes count
+times_many count many = cond-false (nat_le count 15) (DoRebaseImmTimes count) (DoRebaseUlebTimes count) (lt-leb count 15 many)
+
+times_end : (count : ℕ) → ends (times_opcode count) ≡ false
+times_end count = elim (cases_lt 15 count) [ inl many ↦ ap ends (times_many count many) | inr few ↦ ap ends (times_few count few) ]
+
+times_there : (before tail : List ℕ) (count at : ℕ) → length before ≡ at → count < 2 ^ 64 → opcode_at (before ++ (times_bytes count ++ tail)) at ≡ Ok (times_opcode count, at + length (times_bytes count))
 times_there before tail count at is small =
     elim (cases_lt 15 count) [
       | inl many ↦
           let e : times_bytes count ≡ 0x60 ∷ uleb_bytes count = cond-false (nat_le count 15) ((0x50 + count) ∷ []) (0x60 ∷ uleb_bytes count) (lt-leb count 15 many) in
           let long = ap length e in
           ap (λ (l : List ℕ). opcode_at (before ++ (l ++ tail)) at) e
-          ∙ (many_there before tail count at is small ∙ ap (λ (n : ℕ). let r : Read = Ok (Record count 8, n) in r) (omega (arith, long)))
+          ∙ (many_there before tail count at is small ∙ ap₂ (λ (o : Opcode) (n : ℕ). let r : Read = Ok (o, n) in r) (sym (times_many count many)) (omega (arith, long)))
       | inr few ↦
           let e : times_bytes count ≡ (0x50 + count) ∷ [] = cond-true (nat_le count 15) ((0x50 + count) ∷ []) (0x60 ∷ uleb_bytes count) (le-leb count 15 few) in
           let long = ap length e in
           ap (λ (l : List ℕ). opcode_at (before ++ (l ++ tail)) at) e
-          ∙ (few_there before tail count at is few ∙ ap (λ (n : ℕ). let r : Read = Ok (Record count 8, n) in r) (omega (arith, long)))
+          ∙ (few_there before tail count at is few ∙ ap₂ (λ (o : Opcode) (n : ℕ). let r : Read = Ok (o, n) in r) (sym (times_few count few)) (omega (arith, long)))
     ]
 
 times_some : (count : ℕ) → 1 ≤ length (times_bytes count)
@@ -101,7 +112,7 @@ unfoldable pub opcodes_from : Img → ℕ → List Run → Opcodes Opcode Rule
 opcodes_from image at [] = End
 opcodes_from image at (r ∷ rs) =
     let second = at + 1 + length (uleb_bytes (offset_in image r.segment r.address)) in
-    Next at (SetPlace r.segment (offset_in image r.segment r.address)) (Next second (Record r.count 8) (opcodes_from image (second + length (times_bytes r.count)) rs))
+    Next at (SetSegmentAndOffsetUleb r.segment (offset_in image r.segment r.address)) (Next second (times_opcode r.count) (opcodes_from image (second + length (times_bytes r.count)) rs))
 
 -- a run that its opcodes have room for
 pub record IsSmall (image : Img) (r : Run) : Type 0 where
@@ -148,12 +159,12 @@ spelled_runs image before (r ∷ rs) at left is small enough =
     let two : length (before ++ ((0x20 + r.segment) ∷ (spelt ++ (times ++ done)))) ≡ third + length done = ap length behind ∙ (ap length last ∙ all_long) in
     let three : length (front ++ (times ++ done)) ≡ third + length done = ap length last ∙ all_long in
     ap (λ (l : List ℕ). opcodes_in spelling left l at) whole
-    ∙ (spelled_next (before ++ ((0x20 + r.segment) ∷ (spelt ++ (times ++ done)))) at left (SetPlace r.segment offset) second (omega (arith, two)) (omega (arith, one, two, enough))
+    ∙ (spelled_next (before ++ ((0x20 + r.segment) ∷ (spelt ++ (times ++ done)))) at left (SetSegmentAndOffsetUleb r.segment offset) second (omega (arith, two)) (omega (arith, one, two, enough))
     (set_there before (times ++ done) r.segment offset at is small.0.segment small.0.offset) refl
-    ∙ ap (λ (os : Opcodes Opcode Rule). let all : Opcodes Opcode Rule = Next at (SetPlace r.segment offset) os in all)
+    ∙ ap (λ (os : Opcodes Opcode Rule). let all : Opcodes Opcode Rule = Next at (SetSegmentAndOffsetUleb r.segment offset) os in all)
     (ap (λ (l : List ℕ). opcodes_in spelling (left - 1) l second) behind
-    ∙ (spelled_next (front ++ (times ++ done)) second (left - 1) (Record r.count 8) third (omega (arith, three, some)) (omega (arith, one, three, enough))
-    (times_there front done r.count second front_long small.0.count) refl
-    ∙ ap (λ (os : Opcodes Opcode Rule). let all : Opcodes Opcode Rule = Next second (Record r.count 8) os in all)
+    ∙ (spelled_next (front ++ (times ++ done)) second (left - 1) (times_opcode r.count) third (omega (arith, three, some)) (omega (arith, one, three, enough))
+    (times_there front done r.count second front_long small.0.count) (times_end r.count)
+    ∙ ap (λ (os : Opcodes Opcode Rule). let all : Opcodes Opcode Rule = Next second (times_opcode r.count) os in all)
     (ap (λ (l : List ℕ). opcodes_in spelling (left - 1 - 1) l third) last
     ∙ spelled_runs image (front ++ times) rs third (left - 1 - 1) times_long small.1 (omega (arith, one, all_long, enough, some))))))

@@ -3,11 +3,10 @@ use Rattle.std.proofs.Common.{◌≡◌, ◌≤◌, ◌<◌, ◌+◌, ◌-◌, �
 use Rattle.std.specs.Prelude.{option_map}
 use Rattle.std.specs.List.{All, AllPairs, range_with_len}
 use Rattle.std.specs.Option.{option_or}
-use Rattle.std.proofs.lemmas.Bool.{cond-true, cond-false, cases_Bool, le-ltb}
+use Rattle.std.proofs.lemmas.Bool.{cond-true, cond-false, cases_Bool, le-ltb, cases_lt}
 use Rattle.std.proofs.lemmas.Bool.Decides.{nat_tests}
-use Rattle.std.proofs.lemmas.List.{drop_all, drop-drop}
+use Rattle.std.proofs.lemmas.List.{drop_all, drop-drop, length-map}
 use Rattle.std.proofs.lemmas.List.Elements.{All-from_recursion}
-use Rattle.std.proofs.lemmas.List.FromFn.{length-map-range_with_len}
 use Rattle.std.proofs.lemmas.Option.{slice_get_within, get_or_from_slice_get}
 use Rattle.dsc_base.specs.declared.rule.Rule.{Rule}
 use Rattle.dsc_base.specs.declared.rule.Rule.TheVariants.{RebasedTwice}
@@ -27,15 +26,12 @@ use Rattle.macho_image.proofs.SectionLaws.{sections_in_order}
 use Rattle.macho_image.proofs.SoundSegments.{segments_low}
 use Rattle.macho_image.proofs.OrderLaws.{SpacedFrom, spaced_up, in_order_same}
 use Rattle.macho_image.proofs.CloseLaws.{close_pair, close_is}
-use Rattle.rebase_ops.specs.declared.opcode.Opcode.{Opcode}
-use Rattle.rebase_ops.specs.declared.opcode.Opcode.TheVariants.{SetPointerType}
-use Rattle.rebase_ops.specs.declared.run.Cursor.{Cursor}
-use Rattle.rebase_ops.specs.Opcodes.{opcode_with, spelling}
-use Rattle.rebase_ops.specs.Rebases.{start, rule_of, record_fault, meaning, rebases_of, rebase_break}
+use Rattle.rebase_ops.specs.Opcodes.{Opcode, SetTypeImm, opcode_with, spelling}
+use Rattle.rebase_ops.specs.Rebases.{State, start, recorded, further, moved, rule_of, record_fault, meaning, rebases_of, rebase_break}
 use Rattle.rebase_ops.specs.Writing.{Run, run_from, is_next, in_front, runs_of, offset_in, times_bytes, run_bytes, runs_bytes, rebase_bytes, CanBeWritten}
 use Rattle.rebase_ops.proofs.PlaceLaws.{located, placed_fine, offset_next, offset_small}
 use Rattle.rebase_ops.proofs.RunLaws.{from_place}
-use Rattle.rebase_ops.proofs.SpelledLaws.{AreSmall, opcodes_from, spelled_runs, spelled_next, opcode_there}
+use Rattle.rebase_ops.proofs.SpelledLaws.{AreSmall, times_opcode, times_few, times_many, opcodes_from, spelled_runs, spelled_next, opcode_there}
 
 -- ---- runs and their locations
 
@@ -147,57 +143,59 @@ made_back image g (l ∷ ls) order inside plain =
     (ap (λ (h : ℕ). location image (Some h) (offset_of image l)) (sym inside.0) ∙ located image l order plain.0.word plain.0.small)
     (made_back image g ls order inside.1 plain.1)
 
-pub runs_recorded : (image : Img) (c : Cursor) (at : ℕ) (rs : List Run) (ls : List Location) → AllPairs Precedes image.sections → AreRunsOf image rs ls → records (meaning image) c (opcodes_from image at rs) ≡ ls
+times_recorded : (s : State) (count : ℕ) → recorded s (times_opcode count) ≡ progression s.offset 8 count
+times_recorded s count = elim (cases_lt 15 count) [ inl many ↦ ap (recorded s) (times_many count many) | inr few ↦ ap (recorded s) (times_few count few) ]
+
+times_moved : (s : State) (count : ℕ) → moved s (times_opcode count) ≡ further s (count * 8)
+times_moved s count = elim (cases_lt 15 count) [ inl many ↦ ap (moved s) (times_many count many) | inr few ↦ ap (moved s) (times_few count few) ]
+
+pub runs_recorded : (image : Img) (s : State) (at : ℕ) (rs : List Run) (ls : List Location) → AllPairs Precedes image.sections → AreRunsOf image rs ls → records (meaning image) s (opcodes_from image at rs) ≡ ls
 unfolding records opcodes_from
-runs_recorded image c at [] ls order runs = sym runs
-runs_recorded image c at (r ∷ rs) ls order runs =
+runs_recorded image s at [] ls order runs = sym runs
+runs_recorded image s at (r ∷ rs) ls order runs =
     let xs = runs.0 in
     let ys = runs.1.0 in
     let run = runs.1.1.1 in
-    let offset = offset_in image r.segment r.address in
     let second = at + 1 + length (uleb_bytes (offset_in image r.segment r.address)) in
-    let after : Cursor = record { segment = Some r.segment; offset = wrap (offset + r.count * 8) } in
+    let placed : State = record { segment = Some r.segment; offset = offset_in image r.segment r.address } in
+    let more = opcodes_from image (second + length (times_bytes r.count)) rs in
     ap₂ (λ (front back : List Location). front ++ back)
-    (ap (λ (os : List ℕ). map (location image (Some r.segment)) os) run.offsets ∙ made_back image r.segment xs order run.segment run.plain)
-    (runs_recorded image after (second + length (times_bytes r.count)) rs ys order runs.1.1.2)
+    (ap (λ (os : List ℕ). map (location image (Some r.segment)) os) (times_recorded placed r.count ∙ run.offsets) ∙ made_back image r.segment xs order run.segment run.plain)
+    (ap (λ (t : State). records (meaning image) t more) (times_moved placed r.count)
+    ∙ runs_recorded image (further placed (r.count * 8)) (second + length (times_bytes r.count)) rs ys order runs.1.1.2)
     ∙ sym runs.1.1.0
 
 -- none of them is refused
-none_refused : (image : Img) (c : Cursor) (g before : ℕ) (ls : List Location) → c.segment ≡ Some g → AllPairs Precedes image.sections → AllIn g ls → AllPlain image ls → before + length ls ≤ record_limit
-    → first_fault (record_fault image c) before (map (offset_of image) ls) ≡ None
-none_refused image c g before [] set order inside plain few = refl
-none_refused image c g before (l ∷ ls) set order inside plain few =
-    let here : record_fault image c (offset_of image l) before ≡ None =
-    ap (λ (s : Option ℕ). record_fault image (record { segment = s; offset = c.offset }) (offset_of image l) before) (set ∙ ap (λ (h : ℕ). Some h) (sym inside.0))
+none_refused : (image : Img) (g before : ℕ) (ls : List Location) → AllPairs Precedes image.sections → AllIn g ls → AllPlain image ls → before + length ls ≤ record_limit
+    → first_fault (record_fault image (Some g)) before (map (offset_of image) ls) ≡ None
+none_refused image g before [] order inside plain few = refl
+none_refused image g before (l ∷ ls) order inside plain few =
+    let here : record_fault image (Some g) (offset_of image l) before ≡ None =
+    ap (λ (h : ℕ). record_fault image (Some h) (offset_of image l) before) (sym inside.0)
     ∙ ap (λ (o : Option PlaceFault). option_map rule_of o) (placed_fine image l before order plain.0.word plain.0.small (omega arith)) in
-    ap (λ (o : Option Rule). option_or o (first_fault (record_fault image c) (before + 1) (map (offset_of image) ls))) here
-    ∙ none_refused image c g (before + 1) ls set order inside.1 plain.1 (omega arith)
+    ap (λ (o : Option Rule). option_or o (first_fault (record_fault image (Some g)) (before + 1) (map (offset_of image) ls))) here
+    ∙ none_refused image g (before + 1) ls order inside.1 plain.1 (omega arith)
 
-pub runs_sound : (image : Img) (c : Cursor) (at before : ℕ) (rs : List Run) (ls : List Location) → AllPairs Precedes image.sections → AreRunsOf image rs ls → before + length ls ≤ record_limit
-    → reading_break (meaning image) c before (opcodes_from image at rs) ≡ None
+pub runs_sound : (image : Img) (s : State) (at before : ℕ) (rs : List Run) (ls : List Location) → AllPairs Precedes image.sections → AreRunsOf image rs ls → before + length ls ≤ record_limit
+    → reading_break (meaning image) s before (opcodes_from image at rs) ≡ None
 unfolding reading_break opcodes_from
-runs_sound image c at before [] ls order runs few = refl
-runs_sound image c at before (r ∷ rs) ls order runs few =
+runs_sound image s at before [] ls order runs few = refl
+runs_sound image s at before (r ∷ rs) ls order runs few =
     let xs = runs.0 in
     let ys = runs.1.0 in
     let run = runs.1.1.1 in
     let long = ap length runs.1.1.0 ∙ length-append runs.0 runs.1.0 in
-    let offset = offset_in image r.segment r.address in
     let second = at + 1 + length (uleb_bytes (offset_in image r.segment r.address)) in
     let third = second + length (times_bytes r.count) in
-    let placed : Cursor = record { segment = Some r.segment; offset = offset } in
-    let after : Cursor = record { segment = Some r.segment; offset = wrap (offset + r.count * 8) } in
-    let recorded : List ℕ = progression offset 8 r.count in
-    let none : first_fault (record_fault image placed) (before + 0) recorded ≡ None =
-    ap₂ (λ (n : ℕ) (os : List ℕ). first_fault (record_fault image placed) n os) (let e : before + 0 ≡ before = omega arith in e) run.offsets
-    ∙ none_refused image placed r.segment before xs refl order run.segment run.plain (omega (arith, long)) in
-    let counted : before + 0 + length recorded ≡ before + length xs = omega (arith, length_progression offset r.count, run.count) in
-    ap (λ (o : Option Rule). option_or (option_map (site_in (λ r. r) second) o) (reading_break (meaning image) after (before + 0 + length recorded) (opcodes_from image third rs))) none
-    ∙ (ap (λ (n : ℕ). reading_break (meaning image) after n (opcodes_from image third rs)) counted
-    ∙ runs_sound image after third (before + length xs) rs ys order runs.1.1.2 (omega (arith, long)))
-  where
-    length_progression : (a n : ℕ) → length (progression a 8 n) ≡ n
-    length_progression a n = length-map-range_with_len (λ (k : ℕ). wrap (a + k * 8)) 0 n
+    let placed : State = record { segment = Some r.segment; offset = offset_in image r.segment r.address } in
+    let offsets : recorded placed (times_opcode r.count) ≡ map (offset_of image) xs = times_recorded placed r.count ∙ run.offsets in
+    let none : first_fault (record_fault image (Some r.segment)) (before + 0) (recorded placed (times_opcode r.count)) ≡ None =
+    ap₂ (λ (n : ℕ) (os : List ℕ). first_fault (record_fault image (Some r.segment)) n os) (let e : before + 0 ≡ before = omega arith in e) offsets
+    ∙ none_refused image r.segment before xs order run.segment run.plain (omega (arith, long)) in
+    let counted : before + 0 + length (recorded placed (times_opcode r.count)) ≡ before + length xs = omega (arith, ap length offsets, length-map xs (offset_of image)) in
+    ap (λ (o : Option Rule). option_or (option_map (site_in (λ q. q) second) o) (reading_break (meaning image) (moved placed (times_opcode r.count)) (before + 0 + length (recorded placed (times_opcode r.count))) (opcodes_from image third rs))) none
+    ∙ (ap₂ (λ (t : State) (n : ℕ). reading_break (meaning image) t n (opcodes_from image third rs)) (times_moved placed r.count) counted
+    ∙ runs_sound image (further placed (r.count * 8)) third (before + length xs) rs ys order runs.1.1.2 (omega (arith, long)))
 
 -- ---- the stream
 
@@ -261,13 +259,13 @@ ready image ls sound can =
     }
 
 -- the opcodes of the stream
-stream_opcodes : (image : Img) (ls : List Location) → IsReady image ls → opcodes_of spelling (rebase_bytes image ls) ≡ Next 0 SetPointerType (opcodes_from image 1 (runs_of ls))
+stream_opcodes : (image : Img) (ls : List Location) → IsReady image ls → opcodes_of spelling (rebase_bytes image ls) ≡ Next 0 (SetTypeImm 1) (opcodes_from image 1 (runs_of ls))
 unfolding rebase_bytes opcode_with
 stream_opcodes image ls is =
     let rest = runs_bytes image (runs_of ls) ++ 0 ∷ [] in
     let size = length (0x11 ∷ rest) in
-    spelled_next (0x11 ∷ rest) 0 size SetPointerType 1 (omega arith) (omega arith) (opcode_there (0x11 ∷ rest) 0 1 1 0x11 refl refl refl) refl
-    ∙ ap (λ (os : Opcodes Opcode Rule). let all : Opcodes Opcode Rule = Next 0 SetPointerType os in all)
+    spelled_next (0x11 ∷ rest) 0 size (SetTypeImm 1) 1 (omega arith) (omega arith) (opcode_there (0x11 ∷ rest) 0 1 1 0x11 refl refl refl) refl
+    ∙ ap (λ (os : Opcodes Opcode Rule). let all : Opcodes Opcode Rule = Next 0 (SetTypeImm 1) os in all)
     (spelled_runs image (0x11 ∷ []) (runs_of ls) 1 (size - 1) refl (are_small image (runs_of ls) ls is.few (are_runs image ls is.plain)) (omega arith))
 
 stream_records : (image : Img) (ls : List Location) → IsReady image ls → records (meaning image) start (opcodes_of spelling (rebase_bytes image ls)) ≡ ls
