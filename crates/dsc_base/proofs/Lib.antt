@@ -1,7 +1,10 @@
 pub mod EditLaws
 pub mod FieldLaws
+pub mod GroupLaws
 pub mod NumberLaws
 pub mod OutsideLaws
 pub mod Passing
+pub mod SignedLaws
 pub mod SlebLaws
+pub mod StepLaws
 pub mod UlebLaws

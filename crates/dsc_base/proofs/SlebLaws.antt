@@ -1,31 +1,31 @@
--- Which bytes spell no number with a sign.
-use Rattle.std.proofs.Common.{◌≡◌, ◌≢◌, ◌≤◌, ◌<◌, ◌⊎◌, ℕ, zero, suc, ◌%◌, List, [], ◌∷◌, drop, length, get_or, refl, sym, ap, ◌∙◌, arith, inl, inr}
-use Rattle.std.specs.Prelude.{ℤ, ◌↔◌, nat_lt, ◌&&◌, Result, Ok, Err}
+-- Which bytes the steps take for no number with a sign.
+use Rattle.std.proofs.Common.{◌≡◌, ◌≢◌, ◌≤◌, ◌<◌, ◌⊎◌, ℕ, zero, suc, ◌%◌, List, [], ◌∷◌, length, get_or, refl, sym, ap, ◌∙◌, arith, inl, inr}
+use Rattle.std.specs.Prelude.{ℤ, nat_lt, ◌&&◌, Result, Ok, Err}
 use Rattle.std.proofs.lemmas.Bool.{cond-true, cond-false, lt-ltb, le-ltb, cases_lt, and_from, and_left, and_right}
 use Rattle.dsc_base.specs.declared.fault.UlebFault.{UlebFault}
 use Rattle.dsc_base.specs.declared.fault.UlebFault.TheVariants.{Ended, TooWide}
-use Rattle.dsc_base.specs.Uleb.{sleb, sleb_at, signed_continued, signed_ended_by, signed_bits, placed, IsSignedTooWide, IsCut}
-use Rattle.dsc_base.proofs.UlebLaws.{AllMore, AllMore-cons, AllMore-rest, placed-fault}
+use Rattle.dsc_base.specs.Steps.Uleb.{sleb_within, signed_continued, signed_ended_by, signed_bits}
+use Rattle.dsc_base.proofs.StepLaws.{AllMore, AllMore-cons, AllMore-rest}
 
-sleb-last : (left byte : ℕ) (rest : List ℕ) → byte < 128 → sleb (suc left) (byte ∷ rest) ≡ signed_ended_by left byte
+pub sleb-last : (left byte : ℕ) (rest : List ℕ) → byte < 128 → sleb_within (suc left) (byte ∷ rest) ≡ signed_ended_by left byte
 sleb-last left byte rest small =
-    cond-true (nat_lt byte 128) (signed_ended_by left byte) (signed_continued (byte % 128) (sleb left rest)) (lt-ltb byte 128 small)
+    cond-true (nat_lt byte 128) (signed_ended_by left byte) (signed_continued (byte % 128) (sleb_within left rest)) (lt-ltb byte 128 small)
 
-sleb-behind : (left byte : ℕ) (bytes : List ℕ) → 128 ≤ byte → sleb (suc left) (byte ∷ bytes) ≡ signed_continued (byte % 128) (sleb left bytes)
+pub sleb-behind : (left byte : ℕ) (bytes : List ℕ) → 128 ≤ byte → sleb_within (suc left) (byte ∷ bytes) ≡ signed_continued (byte % 128) (sleb_within left bytes)
 sleb-behind left byte bytes large =
-    cond-false (nat_lt byte 128) (signed_ended_by left byte) (signed_continued (byte % 128) (sleb left bytes)) (le-ltb byte 128 large)
+    cond-false (nat_lt byte 128) (signed_ended_by left byte) (signed_continued (byte % 128) (sleb_within left bytes)) (le-ltb byte 128 large)
 
 signed_continued-fault : (low : ℕ) (r : Result (ℤ × ℕ) UlebFault) (fault : UlebFault) → signed_continued low r ≡ Err fault → r ≡ Err fault
 signed_continued-fault low (Err other) fault is = is
 signed_continued-fault low (Ok p) fault is = absurd (cc)
 
 -- a tenth byte that is neither nor, and one that is
-tenth-wide : (byte : ℕ) → 0 < byte → byte < 127 → signed_ended_by zero byte ≡ Err TooWide
+pub tenth-wide : (byte : ℕ) → 0 < byte → byte < 127 → signed_ended_by zero byte ≡ Err TooWide
 tenth-wide byte some few =
     cond-true (nat_lt 0 byte && nat_lt byte 127) (Err TooWide) (Ok (signed_bits byte, 1))
     (and_from (nat_lt 0 byte) (nat_lt byte 127) (lt-ltb 0 byte some) (lt-ltb byte 127 few))
 
-tenth-fits : (byte : ℕ) → (byte ≤ 0) ⊎ (127 ≤ byte) → signed_ended_by zero byte ≡ Ok (signed_bits byte, 1)
+pub tenth-fits : (byte : ℕ) → (byte ≤ 0) ⊎ (127 ≤ byte) → signed_ended_by zero byte ≡ Ok (signed_bits byte, 1)
 tenth-fits byte (inl none) =
     cond-false (nat_lt 0 byte && nat_lt byte 127) (Err TooWide) (Ok (signed_bits byte, 1))
     (and_left (nat_lt 0 byte) (nat_lt byte 127) (le-ltb 0 byte none))
@@ -33,12 +33,12 @@ tenth-fits byte (inr all) =
     cond-false (nat_lt 0 byte && nat_lt byte 127) (Err TooWide) (Ok (signed_bits byte, 1))
     (and_right (nat_lt 0 byte) (nat_lt byte 127) (le-ltb byte 127 all))
 
-tenth-cases : (byte : ℕ) → byte < 128 → ((0 < byte) × (byte < 127)) ⊎ ((byte ≤ 0) ⊎ (127 ≤ byte))
+pub tenth-cases : (byte : ℕ) → byte < 128 → ((0 < byte) × (byte < 127)) ⊎ ((byte ≤ 0) ⊎ (127 ≤ byte))
 tenth-cases byte small =
     elim (cases_lt 0 byte) [ inl some ↦ elim (cases_lt byte 127) [ inl few ↦ inl (some, few) | inr all ↦ inr (inr all) ] | inr none ↦ inr (inl none) ]
 
 -- which bytes spell a number that is too wide
-pub sleb-too_wide_from : (left : ℕ) (bytes : List ℕ) → sleb (suc left) bytes ≡ Err TooWide → AllMore left bytes × (0 < get_or bytes left 0) × (get_or bytes left 0 ≢ 127)
+pub sleb-too_wide_from : (left : ℕ) (bytes : List ℕ) → sleb_within (suc left) bytes ≡ Err TooWide → AllMore left bytes × (0 < get_or bytes left 0) × (get_or bytes left 0 ≢ 127)
 sleb-too_wide_from left [] is = absurd (cc)
 sleb-too_wide_from zero (byte ∷ bytes) is =
     elim (cases_lt byte 128) [
@@ -52,11 +52,11 @@ sleb-too_wide_from (suc left) (byte ∷ bytes) is =
     elim (cases_lt byte 128) [
       | inl small ↦ absurd (let e = sym (sleb-last (suc left) byte bytes small) ∙ is in cc)
       | inr large ↦
-          let below = sleb-too_wide_from left bytes (signed_continued-fault (byte % 128) (sleb (suc left) bytes) TooWide (sym (sleb-behind (suc left) byte bytes large) ∙ is)) in
+          let below = sleb-too_wide_from left bytes (signed_continued-fault (byte % 128) (sleb_within (suc left) bytes) TooWide (sym (sleb-behind (suc left) byte bytes large) ∙ is)) in
           (AllMore-cons left byte bytes large below.0, below.1, below.2)
     ]
 
-pub sleb-too_wide_to : (left : ℕ) (bytes : List ℕ) → AllMore left bytes → 0 < get_or bytes left 0 → get_or bytes left 0 ≢ 127 → sleb (suc left) bytes ≡ Err TooWide
+pub sleb-too_wide_to : (left : ℕ) (bytes : List ℕ) → AllMore left bytes → 0 < get_or bytes left 0 → get_or bytes left 0 ≢ 127 → sleb_within (suc left) bytes ≡ Err TooWide
 sleb-too_wide_to left [] all some not_all = absurd (omega arith)
 sleb-too_wide_to zero (byte ∷ bytes) all some not_all =
     elim (cases_lt byte 128) [
@@ -76,41 +76,20 @@ signed_ended_by-not zero byte small is =
     ]
 signed_ended_by-not (suc left) byte small is = cc
 
-pub sleb-ended_from : (left : ℕ) (bytes : List ℕ) → sleb left bytes ≡ Err Ended → (length bytes < left) × AllMore (length bytes) bytes
+pub sleb-ended_from : (left : ℕ) (bytes : List ℕ) → sleb_within left bytes ≡ Err Ended → (length bytes < left) × AllMore (length bytes) bytes
 sleb-ended_from zero bytes is = absurd (cc)
 sleb-ended_from (suc left) [] is = (omega arith, λ k lt. absurd (omega arith))
 sleb-ended_from (suc left) (byte ∷ bytes) is =
     elim (cases_lt byte 128) [
       | inl small ↦ absurd (signed_ended_by-not left byte small (sym (sleb-last left byte bytes small) ∙ is))
       | inr large ↦
-          let below = sleb-ended_from left bytes (signed_continued-fault (byte % 128) (sleb left bytes) Ended (sym (sleb-behind left byte bytes large) ∙ is)) in
+          let below = sleb-ended_from left bytes (signed_continued-fault (byte % 128) (sleb_within left bytes) Ended (sym (sleb-behind left byte bytes large) ∙ is)) in
           (omega (arith, below.0), AllMore-cons (length bytes) byte bytes large below.1)
     ]
 
-pub sleb-ended_to : (left : ℕ) (bytes : List ℕ) → length bytes < left → AllMore (length bytes) bytes → sleb left bytes ≡ Err Ended
+pub sleb-ended_to : (left : ℕ) (bytes : List ℕ) → length bytes < left → AllMore (length bytes) bytes → sleb_within left bytes ≡ Err Ended
 sleb-ended_to zero bytes few all = absurd (omega arith)
 sleb-ended_to (suc left) [] few all = refl
 sleb-ended_to (suc left) (byte ∷ bytes) few all =
     sleb-behind left byte bytes (all zero (omega arith))
     ∙ ap (λ (r : Result (ℤ × ℕ) UlebFault). signed_continued (byte % 128) r) (sleb-ended_to left bytes (omega arith) (AllMore-rest (length bytes) byte bytes all))
-
--- the same at a place
-pub signed_too_wide_at : (bytes : List ℕ) (at : ℕ) → (sleb_at bytes at ≡ Err TooWide) ↔ IsSignedTooWide (drop at bytes)
-unfolding sleb_at
-signed_too_wide_at bytes at = (
-  λ is. let w = sleb-too_wide_from 9 (drop at bytes) (placed-fault at (sleb 10 (drop at bytes)) TooWide is) in record { nine = w.0; some = w.1; not_all = w.2 },
-  λ w. ap (λ (r : Result (ℤ × ℕ) UlebFault). placed at r) (sleb-too_wide_to 9 (drop at bytes) w.nine w.some w.not_all),
-)
-
-pub signed_cut_at : (bytes : List ℕ) (at : ℕ) → (sleb_at bytes at ≡ Err Ended) ↔ IsCut (drop at bytes)
-unfolding sleb_at
-signed_cut_at bytes at = (
-  λ is. let w = sleb-ended_from 10 (drop at bytes) (placed-fault at (sleb 10 (drop at bytes)) Ended is) in record { few = w.0; all = w.1 },
-  λ w. ap (λ (r : Result (ℤ × ℕ) UlebFault). placed at r) (sleb-ended_to 10 (drop at bytes) w.few w.all),
-)
-
-pub signed_too_wide_for : (bytes : List ℕ) (at : ℕ) (r : Result (ℤ × ℕ) UlebFault) → r ≡ sleb_at bytes at → (r ≡ Err TooWide) ↔ IsSignedTooWide (drop at bytes)
-signed_too_wide_for bytes at r is = let w = signed_too_wide_at bytes at in (λ e. w.0 (sym is ∙ e), λ h. is ∙ w.1 h)
-
-pub signed_cut_for : (bytes : List ℕ) (at : ℕ) (r : Result (ℤ × ℕ) UlebFault) → r ≡ sleb_at bytes at → (r ≡ Err Ended) ↔ IsCut (drop at bytes)
-signed_cut_for bytes at r is = let w = signed_cut_at bytes at in (λ e. w.0 (sym is ∙ e), λ h. is ∙ w.1 h)

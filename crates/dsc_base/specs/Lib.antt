@@ -9,4 +9,5 @@ pub mod Outside
 pub mod Refusals
 pub mod Region
 pub mod RuleNames
+pub mod Steps
 pub mod Uleb

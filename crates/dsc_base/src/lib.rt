@@ -21,7 +21,9 @@ pub use fields::{Field, spell_fields};
 pub use finding_kind::FindingKind;
 pub use limits::{EXPORT_NAMES_LIMIT, NAME_LIMIT, RECORD_LIMIT, SET_RECORD_LIMIT, SPAN_LIMIT};
 pub use name::Name;
-pub use numbers::{put_u16, put_u32, put_u64, read_u16, read_u32, read_u64, round_up};
+pub use numbers::{
+    put_u16, put_u32, put_u64, puts_read_back, read_u16, read_u32, read_u64, round_up,
+};
 pub use outside::{
     FileStore, Gate, GetFault, MemSink, MemStore, OpenGate, Planned, PutFault, Sink, SinkFailed,
     SoundStore, Store, WriterSink,

@@ -1,7 +1,7 @@
 // Little-endian numbers in bytes, and rounding up to a multiple.
 ghost use Rattle.std.specs.Prelude.{◌≡◌, ◌+◌, ◌<◌, ◌≤◌, ◌^◌, ℕ, length, IfSome, IfNone};
 ghost use Rattle.std.specs.Option.{SomeIff};
-ghost use Rattle.dsc_base.specs.Numbers.{number_at, put_number, IsRoundedUp};
+ghost use Rattle.dsc_base.specs.Numbers.{number_at, put_number, IsRoundedUp, PutsReadBack, PutsKeepOthers};
 
 use byteorder::{ByteOrder, LittleEndian};
 
@@ -61,6 +61,14 @@ pub fn put_u64(bytes: &mut [u8], at: usize, value: u64)
 {
     LittleEndian::write_u64(&mut bytes[at..at + 8], value);
 }
+
+/// What is known of `put_u16`, `put_u32` and `put_u64` together with `read_u16`, `read_u32` and
+/// `read_u64`: a number that was written is read at its place, and a number that shares no byte with
+/// it reads as before. Nothing is done.
+pub fn puts_read_back()
+    ensures same { (width : ℕ) → PutsReadBack width }
+    ensures others { (width : ℕ) → PutsKeepOthers width }
+{}
 
 /// The least multiple of `unit` that is not below `n`, or `None` where it exceeds `u64::MAX`.
 pub fn round_up(n: u64, unit: u64) -> Option<u64>

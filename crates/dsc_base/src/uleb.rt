@@ -2,7 +2,8 @@
 // lowest first, and bit 7 in every byte but the last. Mach-O's opcode streams and export tries use them.
 ghost use Rattle.std.specs.Prelude.{◌≡◌, ◌+◌, ◌*◌, ◌++◌, ◌<◌, ◌≤◌, ◌↔◌, ◌^◌, ◌≤ℤ◌, ◌<ℤ◌, pos, neg_ℤ, ◌+ℤ◌, ◌*ℤ◌, ℕ, List, length, drop, IfOk, OnOk, OnErr, Ok, Err};
 ghost use Rattle.dsc_base.specs.declared.fault.UlebFault.TheVariants.{Ended, TooWide};
-ghost use Rattle.dsc_base.specs.Uleb.{uleb, sleb, uleb_at, sleb_at, uleb_bytes, uleb4_bytes, IsTooWide, IsSignedTooWide, IsCut, signed_bits, room};
+ghost use Rattle.dsc_base.specs.Uleb.{uleb_at, sleb_at, uleb_bytes, uleb4_bytes, IsTooWide, IsSignedTooWide, IsCut};
+ghost use Rattle.dsc_base.specs.Steps.Uleb.{uleb_within, sleb_within, signed_bits, room};
 
 use crate::{NoMemory, UlebFault};
 
@@ -11,7 +12,6 @@ const LONGEST: u8 = 10;
 
 /// The number without sign at `at`, and the place after it. Spellings that are longer than they need to be
 /// are read too. `TooWide` where the number has more than 64 bits, `Ended` where the bytes end before it.
-#[tactic(auto, unfolding(crate::specs::Uleb::uleb_at))]
 pub fn read_uleb(bytes: &[u8], at: usize) -> Result<(u64, usize), UlebFault>
     requires { at ≤ length bytes.now }
     ensures number { result ≡ uleb_at bytes.now at }
@@ -25,7 +25,6 @@ pub fn read_uleb(bytes: &[u8], at: usize) -> Result<(u64, usize), UlebFault>
 
 /// The number with a sign at `at`, in two's complement, and the place after it. `TooWide` where a tenth
 /// byte is neither 0x00 nor 0x7F, `Ended` where the bytes end before it.
-#[tactic(auto, unfolding(crate::specs::Uleb::sleb_at))]
 pub fn read_sleb(bytes: &[u8], at: usize) -> Result<(i64, usize), UlebFault>
     requires { at ≤ length bytes.now }
     ensures number { result ≡ sleb_at bytes.now at }
@@ -42,6 +41,8 @@ pub fn read_sleb(bytes: &[u8], at: usize) -> Result<(i64, usize), UlebFault>
 pub fn put_uleb(out: &mut Vec<u8>, value: u64) -> Result<(), NoMemory>
     ensures appended { OnOk result (out.new.items ≡ out.old.items ++ uleb_bytes value) }
     ensures unchanged { OnErr result (out.new.items ≡ out.old.items) }
+    // Read where it was appended it is the number, up to the end.
+    ensures reads_back { OnOk result (uleb_at out.new.items (length out.old.items) ≡ Ok (value, length out.new.items)) }
     // It is read back, whatever follows it, and no other bytes that are read so are fewer.
     ensures read_back { (rest : List ℕ) → uleb_at (uleb_bytes value ++ rest) 0 ≡ Ok (value, length (uleb_bytes value)) }
     ensures shortest { (bytes : List ℕ) (end : ℕ) → uleb_at bytes 0 ≡ Ok (value, end) → length (uleb_bytes value) ≤ end }
@@ -80,6 +81,8 @@ pub fn put_uleb4(out: &mut Vec<u8>, value: u32) -> Result<(), NoMemory>
     requires { value < 2 ^ 28 }
     ensures appended { OnOk result (out.new.items ≡ out.old.items ++ uleb4_bytes value) }
     ensures unchanged { OnErr result (out.new.items ≡ out.old.items) }
+    // Read where it was appended it is the number, up to the end.
+    ensures reads_back { OnOk result (uleb_at out.new.items (length out.old.items) ≡ Ok (value, length out.new.items)) }
 {
     out.extend_from_slice(&uleb4(value))?;
     Ok(())
@@ -105,7 +108,7 @@ pub fn uleb4(value: u32) -> [u8; 4]
 // The number at the front, and its length; at most ten calls deep.
 fn front_uleb(bytes: &[u8], left: u8) -> Result<(u64, usize), UlebFault>
     requires { left ≤ 10 }
-    ensures number { result ≡ uleb left bytes.now }
+    ensures number { result ≡ uleb_within left bytes.now }
     ensures fits { IfOk result (λ p. 64 * (p.0 + 1) ≤ room left) }
     ensures within { IfOk result (λ p. (0 < p.1) × (p.1 ≤ length bytes.now)) }
 {
@@ -130,7 +133,7 @@ fn front_uleb(bytes: &[u8], left: u8) -> Result<(u64, usize), UlebFault>
 // The number with a sign at the front, and its length; at most ten calls deep.
 fn front_sleb(bytes: &[u8], left: u8) -> Result<(i64, usize), UlebFault>
     requires { left ≤ 10 }
-    ensures number { result ≡ sleb left bytes.now }
+    ensures number { result ≡ sleb_within left bytes.now }
     ensures low { IfOk result (λ p. neg_ℤ (pos (room left)) ≤ℤ (pos 128 *ℤ p.0)) }
     ensures high { IfOk result (λ p. (pos 128 *ℤ (p.0 +ℤ pos 1)) ≤ℤ pos (room left)) }
     ensures within { IfOk result (λ p. (0 < p.1) × (p.1 ≤ length bytes.now)) }

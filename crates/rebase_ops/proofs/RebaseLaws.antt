@@ -1,5 +1,5 @@
 -- The rebases of a stream, and the first rule that it breaks, from what was read and sorted.
-use Rattle.std.proofs.Common.{◌≡◌, ℕ, false, List, refl, sym, ap, ◌∙◌, subst, arith, Option, Some, None}
+use Rattle.std.proofs.Common.{◌≡◌, ℕ, List, refl, sym, ap, ◌∙◌, subst, arith, Option, Some, None}
 use Rattle.std.specs.Prelude.{option_map}
 use Rattle.std.specs.List.{sum_by}
 use Rattle.std.specs.List.Sorted.{IsPermutation, IsNonDecreasingBy}
@@ -22,26 +22,16 @@ use Rattle.macho_image.proofs.CloseLaws.{close_is, close_spaced, close_sorted, s
 use Rattle.macho_image.proofs.OrderLaws.{order_moves, all_in_order, length_in_order, UpFrom, up_from, up_in_order, sum_in_order, same_list}
 use Rattle.macho_image.proofs.StreamLaws.{Accepts, HasRead, accepted_records}
 use Rattle.macho_image.proofs.WordLaws.{accepted_one}
-use Rattle.rebase_ops.specs.declared.opcode.Opcode.{Opcode}
-use Rattle.rebase_ops.specs.declared.opcode.Opcode.TheVariants.{Done, SetPointerType, SetPlace, Advance, Record}
-use Rattle.rebase_ops.specs.declared.run.Cursor.{Cursor}
-use Rattle.rebase_ops.specs.Opcodes.{ends, spelling}
-use Rattle.rebase_ops.specs.Rebases.{start, rule_of, record_fault, meaning, rebases_of, rebase_break, AreRebases}
-
-pub goes_on : (opcode : Opcode) → (opcode ≡ Done → ⊥) → ends opcode ≡ false
-goes_on Done other = absurd (other refl)
-goes_on SetPointerType other = refl
-goes_on (SetPlace g offset) other = refl
-goes_on (Advance distance) other = refl
-goes_on (Record n t) other = refl
+use Rattle.rebase_ops.specs.Opcodes.{spelling}
+use Rattle.rebase_ops.specs.Rebases.{State, start, rule_of, record_fault, meaning, rebases_of, rebase_break, AreRebases}
 
 no_rule : (o : Option PlaceFault) → option_map rule_of o ≡ None → o ≡ None
 no_rule None none = refl
 no_rule (Some fault) none = absurd (cc)
 
-accepts : (image : Img) → Accepts (λ (c : Cursor) (offset : ℕ). location image c.segment offset) (record_fault image) (IsWord image) record_limit
-accepts image c offset before none =
-    let one = accepted_one image c.segment offset before (no_rule (place_fault image c.segment offset before) none) in
+accepts : (image : Img) → Accepts (λ (s : State) (offset : ℕ). location image s.segment offset) (λ (s : State). record_fault image s.segment) (IsWord image) record_limit
+accepts image s offset before none =
+    let one = accepted_one image s.segment offset before (no_rule (place_fault image s.segment offset before) none) in
     (one.word, one.few)
 
 -- what a stream that breaks no rule gives

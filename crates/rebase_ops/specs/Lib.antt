@@ -1,2 +1,4 @@
 pub mod Opcodes
 pub mod Rebases
+pub mod Steps
+pub mod Writing

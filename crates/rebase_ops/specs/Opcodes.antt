@@ -1,13 +1,22 @@
--- Rebase opcodes, by the REBASE_OPCODE_ numbers of mach-o/loader.h. The high four bits of a byte are an opcode's number and the low four its immediate; an operand is a variable-length number behind it.
-use Rattle.std.specs.Prelude.{ℕ, ◌+◌, ◌*◌, ◌/◌, ◌%◌, Bool, true, false, List, slice_index, Result, Ok, Err, nat_eq, if◌then◌else◌}
+-- Rebase opcodes, by the REBASE_OPCODE_ names and numbers of mach-o/loader.h. The high four bits of a byte are an opcode's number and the low four its immediate; an operand is a variable-length number behind it.
+use Rattle.std.specs.Prelude.{ℕ, ◌+◌, ◌/◌, ◌%◌, Bool, true, false, List, slice_index, Result, Ok, Err, nat_eq, if◌then◌else◌}
 use Rattle.dsc_base.specs.declared.fault.UlebFault.{UlebFault}
 use Rattle.dsc_base.specs.declared.rule.Rule.{Rule}
 use Rattle.dsc_base.specs.declared.rule.Rule.TheVariants.{RebaseBadUleb, RebaseBadOpcode, RebaseBadType}
 use Rattle.dsc_base.specs.Uleb.{uleb_at}
-use Rattle.rebase_ops.specs.declared.opcode.Opcode.{Opcode}
-use Rattle.rebase_ops.specs.declared.opcode.Opcode.TheVariants.{Done, SetPointerType, SetPlace, Advance, Record}
-use Rattle.macho_image.specs.Places.{wrap}
 use Rattle.macho_image.specs.Streams.{Spelling}
+
+-- an opcode with its immediate and its operands, in this order
+pub data Opcode : Type 0 where
+  Done : Opcode
+  SetTypeImm : ℕ → Opcode
+  SetSegmentAndOffsetUleb : ℕ → ℕ → Opcode
+  AddAddrUleb : ℕ → Opcode
+  AddAddrImmScaled : ℕ → Opcode
+  DoRebaseImmTimes : ℕ → Opcode
+  DoRebaseUlebTimes : ℕ → Opcode
+  DoRebaseAddAddrUleb : ℕ → Opcode
+  DoRebaseUlebTimesSkippingUleb : ℕ → ℕ → Opcode
 
 infixl 10 ◌>>=◌
 abbrev pub ◌>>=◌ : {A B : Type 0} → Result A Rule → (A → Result B Rule) → Result B Rule
@@ -25,35 +34,27 @@ operand_at bytes at = operand_in (uleb_at bytes at)
 -- the opcode with a number and an immediate, whose operands begin at a place, and the place behind them
 unfoldable pub opcode_with : ℕ → ℕ → List ℕ → ℕ → Result (Opcode × ℕ) Rule
 opcode_with number immediate bytes at =
-    -- DONE
     if nat_eq number 0 then Ok (Done, at) else
-    -- SET_TYPE_IMM: REBASE_TYPE_POINTER is 1
-    (if nat_eq number 1 then (if nat_eq immediate 1 then Ok (SetPointerType, at) else Err RebaseBadType) else
-    -- SET_SEGMENT_AND_OFFSET_ULEB
+    -- the type has to be REBASE_TYPE_POINTER, which is 1
+    (if nat_eq number 1 then (if nat_eq immediate 1 then Ok (SetTypeImm immediate, at) else Err RebaseBadType) else
     (if nat_eq number 2 then (do
       offset ← operand_at bytes at
-      Ok (SetPlace immediate offset.0, offset.1)) else
-    -- ADD_ADDR_ULEB
+      Ok (SetSegmentAndOffsetUleb immediate offset.0, offset.1)) else
     (if nat_eq number 3 then (do
       distance ← operand_at bytes at
-      Ok (Advance distance.0, distance.1)) else
-    -- ADD_ADDR_IMM_SCALED
-    (if nat_eq number 4 then Ok (Advance (8 * immediate), at) else
-    -- DO_REBASE_IMM_TIMES
-    (if nat_eq number 5 then Ok (Record immediate 8, at) else
-    -- DO_REBASE_ULEB_TIMES
+      Ok (AddAddrUleb distance.0, distance.1)) else
+    (if nat_eq number 4 then Ok (AddAddrImmScaled immediate, at) else
+    (if nat_eq number 5 then Ok (DoRebaseImmTimes immediate, at) else
     (if nat_eq number 6 then (do
       count ← operand_at bytes at
-      Ok (Record count.0 8, count.1)) else
-    -- DO_REBASE_ADD_ADDR_ULEB
+      Ok (DoRebaseUlebTimes count.0, count.1)) else
     (if nat_eq number 7 then (do
       skip ← operand_at bytes at
-      Ok (Record 1 (wrap (8 + skip.0)), skip.1)) else
-    -- DO_REBASE_ULEB_TIMES_SKIPPING_ULEB
+      Ok (DoRebaseAddAddrUleb skip.0, skip.1)) else
     (if nat_eq number 8 then (do
       count ← operand_at bytes at
       skip ← operand_at bytes count.1
-      Ok (Record count.0 (wrap (8 + skip.0)), skip.1)) else
+      Ok (DoRebaseUlebTimesSkippingUleb count.0 skip.0, skip.1)) else
     Err RebaseBadOpcode))))))))
 
 -- the opcode at a place and the place behind it, or the rule that it breaks

@@ -10,31 +10,44 @@ use Rattle.dsc_base.specs.Refusals.{broken}
 use Rattle.macho_image.specs.declared.place.Location.{Location}
 use Rattle.macho_image.specs.declared.places.record.PlaceFault.{PlaceFault}
 use Rattle.macho_image.specs.declared.places.record.PlaceFault.TheVariants.{OutsideSegment, NotWritable, OutsideSection, Misaligned, CrossesPage, TooMany}
-use Rattle.rebase_ops.specs.declared.opcode.Opcode.{Opcode}
-use Rattle.rebase_ops.specs.declared.opcode.Opcode.TheVariants.{SetPlace, Advance, Record}
-use Rattle.rebase_ops.specs.declared.run.Cursor.{Cursor}
-use Rattle.rebase_ops.specs.Opcodes.{spelling}
+use Rattle.rebase_ops.specs.Opcodes.{Opcode, SetSegmentAndOffsetUleb, AddAddrUleb, AddAddrImmScaled, DoRebaseImmTimes, DoRebaseUlebTimes, DoRebaseAddAddrUleb, DoRebaseUlebTimesSkippingUleb, spelling}
 use Rattle.macho_image.specs.Order.{in_address_order, addresses_of, first_close}
 use Rattle.macho_image.specs.Places.{wrap, place_fault, location, IsWord}
 use Rattle.dsc_base.specs.Limits.{record_limit}
 use Rattle.macho_image.specs.Runs.{progression}
 use Rattle.macho_image.specs.Streams.{opcodes_of, Meaning, records, site_in, reading_break}
 
--- the offsets at which an opcode records, in the segment that is set
-abbrev pub recorded : Cursor → Opcode → List ℕ
-recorded c (Record n t) = progression c.offset t n
-recorded c _ = []
-
--- the segment and the offset after an opcode
-abbrev pub moved : Cursor → Opcode → Cursor
-moved c (SetPlace g offset) = record { segment = Some g; offset = offset }
-moved c (Advance distance) = record { segment = c.segment; offset = wrap (c.offset + distance) }
-moved c (Record n t) = record { segment = c.segment; offset = wrap (c.offset + n * t) }
-moved c _ = c
+-- the segment that is set, and the offset of the next record from its start
+pub record State : Type 0 where
+  pub segment : Option ℕ
+  pub offset : ℕ
 
 -- before the first opcode no segment is set
-abbrev pub start : Cursor
+abbrev pub start : State
 start = record { segment = None; offset = 0 }
+
+-- the offsets at which an opcode records: pointers side by side, or so many bytes more apart
+abbrev pub recorded : State → Opcode → List ℕ
+recorded s (DoRebaseImmTimes count) = progression s.offset 8 count
+recorded s (DoRebaseUlebTimes count) = progression s.offset 8 count
+recorded s (DoRebaseAddAddrUleb skip) = progression s.offset (8 + skip) 1
+recorded s (DoRebaseUlebTimesSkippingUleb count skip) = progression s.offset (8 + skip) count
+recorded s _ = []
+
+-- so many bytes further on
+abbrev pub further : State → ℕ → State
+further s distance = record { segment = s.segment; offset = wrap (s.offset + distance) }
+
+-- the state behind an opcode
+abbrev pub moved : State → Opcode → State
+moved s (SetSegmentAndOffsetUleb g offset) = record { segment = Some g; offset = offset }
+moved s (AddAddrUleb distance) = further s distance
+moved s (AddAddrImmScaled immediate) = further s (8 * immediate)
+moved s (DoRebaseImmTimes count) = further s (count * 8)
+moved s (DoRebaseUlebTimes count) = further s (count * 8)
+moved s (DoRebaseAddAddrUleb skip) = further s (8 + skip)
+moved s (DoRebaseUlebTimesSkippingUleb count skip) = further s (count * (8 + skip))
+moved s _ = s
 
 abbrev pub rule_of : PlaceFault → Rule
 rule_of OutsideSegment = RebaseOutsideSegment
@@ -44,17 +57,17 @@ rule_of Misaligned = RebaseMisaligned
 rule_of CrossesPage = RebaseCrossesPage
 rule_of TooMany = RebaseTooMany
 
--- the rule that a record at an offset breaks, after so many of its stream
-abbrev pub record_fault : Img → Cursor → ℕ → ℕ → Option Rule
-record_fault image c offset before = option_map rule_of (place_fault image c.segment offset before)
+-- the rule that a record at an offset in a segment breaks, after so many of its stream
+abbrev pub record_fault : Img → Option ℕ → ℕ → ℕ → Option Rule
+record_fault image g offset before = option_map rule_of (place_fault image g offset before)
 
 -- a rule that is broken at the offset of an opcode
 abbrev pub site_of : ℕ → Rule → Site
 site_of at rule = site_in (λ r. r) at rule
 
 -- rebase opcodes record words of an image
-abbrev pub meaning : Img → Meaning Cursor Opcode Location Rule
-meaning image = record { moved = moved; recorded = recorded; made = λ c offset. location image c.segment offset; refused = record_fault image; rule = λ r. r }
+abbrev pub meaning : Img → Meaning State Opcode Location Rule
+meaning image = record { moved = moved; recorded = recorded; made = λ s offset. location image s.segment offset; refused = λ s. record_fault image s.segment; rule = λ r. r }
 
 -- the rebases that a stream spells for an image
 unfoldable pub rebases_of : List ℕ → Img → List Location

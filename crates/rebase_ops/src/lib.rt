@@ -7,5 +7,7 @@ mod read;
 mod run;
 #[cfg(test)]
 mod tests;
+mod write;
 
 pub use read::read_rebases;
+pub use write::write_rebases;

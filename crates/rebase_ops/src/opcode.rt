@@ -1,6 +1,7 @@
 // Rebase opcodes, read one at a time.
 ghost use Rattle.std.specs.Prelude.{◌≡◌, ◌<◌, ◌≤◌, ◌+◌, length, IfOk};
 ghost use Rattle.rebase_ops.specs.Opcodes.{operand_at, opcode_at, opcode_with};
+ghost use Rattle.rebase_ops.specs.Steps.Effects.{effect_read};
 ghost use Rattle.macho_image.specs.Places.{wrap};
 
 use dsc_base::{Rule, read_uleb};
@@ -32,16 +33,16 @@ const DO_REBASE_ULEB_TIMES_SKIPPING_ULEB: u8 = 8;
 
 /// What an opcode does. Distances and steps count in bytes, modulo 2^64.
 #[derive(Clone, Copy)]
-pub(crate) enum Opcode {
+pub(crate) enum Effect {
     /// Ends the stream.
-    Done,
-    SetPointerType,
+    Ends,
+    SetsPointerType,
     /// Begins at an offset from the start of a segment, which is given by its number.
-    SetPlace { segment: u32, offset: u64 },
+    SetsPlace { segment: u32, offset: u64 },
     /// Moves on without a record.
-    Advance { distance: u64 },
+    Advances { distance: u64 },
     /// Records so many words, each a step behind the one before it, and moves a step behind the last.
-    Record { count: u64, step: u64 },
+    Records { count: u64, step: u64 },
 }
 
 // An operand and the place behind it.
@@ -58,38 +59,38 @@ fn operand(stream: &[u8], at: usize) -> Result<(u64, usize), Rule>
 }
 
 // So many words, each so many bytes behind the end of the one before it.
-fn records(count: u64, skip: u64) -> Opcode
-    ensures { result ≡ Opcode.Record count (wrap (8 + skip)) }
+fn records(count: u64, skip: u64) -> Effect
+    ensures { result ≡ Effect.Records count (wrap (8 + skip)) }
 {
-    Opcode::Record {
+    Effect::Records {
         count,
         step: POINTER.wrapping_add(skip),
     }
 }
 
-// The opcode with a number and an immediate, whose operands begin at a place, and the place behind them.
+// What the opcode with a number and an immediate does, whose operands begin at a place, and the place behind them.
 #[tactic(auto, unfolding(crate::specs::Opcodes::opcode_with))]
-fn opcode_with(number: u8, immediate: u8, stream: &[u8], at: usize) -> Result<(Opcode, usize), Rule>
+fn opcode_with(number: u8, immediate: u8, stream: &[u8], at: usize) -> Result<(Effect, usize), Rule>
     requires { at ≤ length stream.now }
-    ensures value { result ≡ opcode_with number immediate stream.now at }
+    ensures value { result ≡ effect_read (opcode_with number immediate stream.now at) }
     ensures within { IfOk result (λ p. (at ≤ p.1) × (p.1 ≤ length stream.now)) }
 {
     match number {
-        DONE => Ok((Opcode::Done, at)),
-        SET_TYPE_IMM if immediate == POINTER_TYPE => Ok((Opcode::SetPointerType, at)),
+        DONE => Ok((Effect::Ends, at)),
+        SET_TYPE_IMM if immediate == POINTER_TYPE => Ok((Effect::SetsPointerType, at)),
         SET_TYPE_IMM => Err(Rule::RebaseBadType),
         SET_SEGMENT_AND_OFFSET_ULEB => {
             let (offset, next) = operand(stream, at)?;
             let segment = u32::from(immediate);
-            Ok((Opcode::SetPlace { segment, offset }, next))
+            Ok((Effect::SetsPlace { segment, offset }, next))
         }
         ADD_ADDR_ULEB => {
             let (distance, next) = operand(stream, at)?;
-            Ok((Opcode::Advance { distance }, next))
+            Ok((Effect::Advances { distance }, next))
         }
         ADD_ADDR_IMM_SCALED => {
             let distance = POINTER * u64::from(immediate);
-            Ok((Opcode::Advance { distance }, at))
+            Ok((Effect::Advances { distance }, at))
         }
         DO_REBASE_IMM_TIMES => Ok((records(u64::from(immediate), 0), at)),
         DO_REBASE_ULEB_TIMES => {
@@ -109,11 +110,11 @@ fn opcode_with(number: u8, immediate: u8, stream: &[u8], at: usize) -> Result<(O
     }
 }
 
-/// The opcode at a place and the place behind it, or the rule that it breaks.
+/// What the opcode at a place does and the place behind it, or the rule that it breaks.
 #[tactic(auto, unfolding(crate::specs::Opcodes::opcode_at))]
-pub(crate) fn read_opcode(stream: &[u8], at: usize) -> Result<(Opcode, usize), Rule>
+pub(crate) fn read_opcode(stream: &[u8], at: usize) -> Result<(Effect, usize), Rule>
     requires { at < length stream.now }
-    ensures value { result ≡ opcode_at stream.now at }
+    ensures value { result ≡ effect_read (opcode_at stream.now at) }
     ensures within { IfOk result (λ p. (at < p.1) × (p.1 ≤ length stream.now)) }
 {
     let byte = stream[at];

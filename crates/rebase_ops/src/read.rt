@@ -5,7 +5,7 @@ ghost use Rattle.macho_image.specs.Streams.{opcodes_of, records, reading_break};
 ghost use Rattle.rebase_ops.specs.Opcodes.{spelling};
 ghost use Rattle.rebase_ops.specs.Rebases as spec;
 
-use crate::opcode::{Opcode, read_opcode};
+use crate::opcode::{Effect, read_opcode};
 use crate::run::{Cursor, apply};
 use dsc_base::{Fault, Rule, Site};
 use macho_image::{Image, Location, first_close};
@@ -23,7 +23,7 @@ fn read_stream(alloc: Global, stream: &[u8], image: &Image<'_>) -> Result<Vec<Lo
     };
     let mut at = 0;
     while at < stream.len() {
-        let (opcode, next) = match read_opcode(stream, at) {
+        let (effect, next) = match read_opcode(stream, at) {
             Ok(read) => read,
             Err(rule) => {
                 return Err(Fault::Broken(Site {
@@ -32,10 +32,10 @@ fn read_stream(alloc: Global, stream: &[u8], image: &Image<'_>) -> Result<Vec<Lo
                 }));
             }
         };
-        if let Opcode::Done = opcode {
+        if let Effect::Ends = effect {
             return Ok(out);
         }
-        cursor = apply(image, cursor, opcode, at, &mut out)?;
+        cursor = apply(image, cursor, effect, at, &mut out)?;
         at = next;
     }
     Ok(out)

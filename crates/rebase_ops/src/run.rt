@@ -3,9 +3,10 @@ ghost use Rattle.std.specs.Prelude.{◌≡◌, ◌++◌, ◌+◌, ◌*◌, lengt
 ghost use Rattle.dsc_base.specs.Refusals.{Refuses};
 ghost use Rattle.macho_image.specs.Places.{wrap, location, unless};
 ghost use Rattle.macho_image.specs.Runs.{progression, first_fault};
-ghost use Rattle.rebase_ops.specs.Rebases.{recorded, moved, rule_of, record_fault, site_of};
+ghost use Rattle.rebase_ops.specs.Rebases.{rule_of, record_fault, site_of};
+ghost use Rattle.rebase_ops.specs.Steps.Effects.{offsets_of, cursor_after};
 
-use crate::opcode::Opcode;
+use crate::opcode::Effect;
 use dsc_base::{Fault, Rule, Site};
 use macho_image::{Image, Location, PlaceFault, locate};
 
@@ -32,7 +33,7 @@ fn rule_of(fault: PlaceFault) -> Rule
 // The word at an offset in the segment that is set, or the rule that a record there breaks, after so many of
 // the stream.
 fn place(image: &Image<'_>, cursor: Cursor, offset: u64, before: usize) -> Result<Location, Rule>
-    ensures { result ≡ unless (record_fault image.now cursor offset before) (location image.now cursor.segment offset) }
+    ensures { result ≡ unless (record_fault image.now cursor.segment offset before) (location image.now cursor.segment offset) }
 {
     match locate(image, cursor.segment, offset, before) {
         Ok(location) => Ok(location),
@@ -52,7 +53,7 @@ fn record(
 ) -> Result<Cursor, Fault>
     ensures moved { IfOk result (λ c. c ≡ record { segment = cursor.segment; offset = wrap (cursor.offset + count * step) }) }
     ensures added { OnOk result (out.new.items ≡ out.old.items ++ map (location image.now cursor.segment) (progression cursor.offset step count)) }
-    ensures cause { Refuses (option_map (site_of at) (first_fault (record_fault image.now cursor) (length out.old.items) (progression cursor.offset step count))) result }
+    ensures cause { Refuses (option_map (site_of at) (first_fault (record_fault image.now cursor.segment) (length out.old.items) (progression cursor.offset step count))) result }
 {
     let mut offset = cursor.offset;
     for _ in 0..count {
@@ -73,29 +74,29 @@ fn record(
     })
 }
 
-/// Appends what the opcode at a place records, and gives where the next one begins.
+/// Appends what the opcode at a place records, by what it does, and gives where the next one begins.
 pub(crate) fn apply(
     image: &Image<'_>,
     cursor: Cursor,
-    opcode: Opcode,
+    effect: Effect,
     at: usize,
     out: &mut Vec<Location>,
 ) -> Result<Cursor, Fault>
-    ensures moved { IfOk result (λ c. c ≡ moved cursor opcode) }
-    ensures added { OnOk result (out.new.items ≡ out.old.items ++ map (location image.now cursor.segment) (recorded cursor opcode)) }
-    ensures cause { Refuses (option_map (site_of at) (first_fault (record_fault image.now cursor) (length out.old.items) (recorded cursor opcode))) result }
+    ensures moved { IfOk result (λ c. c ≡ cursor_after cursor effect) }
+    ensures added { OnOk result (out.new.items ≡ out.old.items ++ map (location image.now cursor.segment) (offsets_of cursor effect)) }
+    ensures cause { Refuses (option_map (site_of at) (first_fault (record_fault image.now cursor.segment) (length out.old.items) (offsets_of cursor effect))) result }
 {
-    match opcode {
-        Opcode::Done | Opcode::SetPointerType => Ok(cursor),
-        Opcode::SetPlace { segment, offset } => Ok(Cursor {
+    match effect {
+        Effect::Ends | Effect::SetsPointerType => Ok(cursor),
+        Effect::SetsPlace { segment, offset } => Ok(Cursor {
             segment: Some(segment),
             offset,
         }),
-        Opcode::Advance { distance } => Ok(Cursor {
+        Effect::Advances { distance } => Ok(Cursor {
             segment: cursor.segment,
             offset: cursor.offset.wrapping_add(distance),
         }),
-        Opcode::Record { count, step } => {
+        Effect::Records { count, step } => {
             let next = record(image, cursor, count, step, at, out)?;
             Ok(next)
         }

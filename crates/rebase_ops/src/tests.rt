@@ -1,8 +1,12 @@
-// Streams of one dylib and of two that differ in their data: the locations of those that keep the rules, and for
-// each of rules 21 to 30 streams that break it.
-use crate::read_rebases;
+// Streams of one dylib and of two that differ in their data: the locations of those that keep the rules and the
+// stream that is written for these, and for each of rules 21 to 30 streams that break it.
+ghost use Rattle.std.specs.Prelude.{◌≡◌, ◌<◌, true};
+ghost use Rattle.std.specs.List.{All};
+ghost use Rattle.rebase_ops.specs.Rebases.{AreRebases};
+
+use crate::{read_rebases, write_rebases};
 use dsc_base::{Fault, put_u32};
-use macho_image::{Form, Location, read_image};
+use macho_image::{Form, Image, Location, read_image};
 use std::alloc::Global;
 use std::process::Abort;
 use std::test::Fail;
@@ -94,24 +98,46 @@ const WIDE: [(usize, u32); 6] = [
 
 const SHORT: [(usize, u32); 1] = [(0x128, 0x800)];
 
-// What is wanted of a stream: the addresses of its locations, or the rule that it breaks and where.
-type Wanted = Result<&'static [u64], (u16, u64)>;
+// What is wanted of a stream: the addresses of its locations and the stream that is written for them, or the
+// rule that it breaks and where.
+type Wanted = Result<(&'static [u64], &'static [u8]), (u16, u64)>;
+
+// Pointers side by side.
+const FIFTEEN: [u64; 15] = [
+    0x1010, 0x1018, 0x1020, 0x1028, 0x1030, 0x1038, 0x1040, 0x1048, 0x1050, 0x1058, 0x1060, 0x1068,
+    0x1070, 0x1078, 0x1080,
+];
+
+const SIXTEEN: [u64; 16] = [
+    0x1010, 0x1018, 0x1020, 0x1028, 0x1030, 0x1038, 0x1040, 0x1048, 0x1050, 0x1058, 0x1060, 0x1068,
+    0x1070, 0x1078, 0x1080, 0x1088,
+];
 
 // Edits of the dylib, the place of its rebase stream, the stream, and what is wanted of it.
-const CASES: [(&[(usize, u32)], u32, &[u8], Wanted); 26] = [
+const CASES: [(&[(usize, u32)], u32, &[u8], Wanted); 28] = [
     // one pointer
-    (&[], 0x2010, b"\x11\x21\x10\x51\x00", Ok(&[0x1010])),
+    (
+        &[],
+        0x2010,
+        b"\x11\x21\x10\x51\x00",
+        Ok((&[0x1010], b"\x11\x21\x10\x51\x00")),
+    ),
     // two pointers, with a gap between them
     (
         &[],
         0x2010,
         b"\x11\x21\x10\x70\x10\x51\x00",
-        Ok(&[0x1010, 0x1028]),
+        Ok((&[0x1010, 0x1028], b"\x11\x21\x10\x51\x21\x28\x51\x00")),
     ),
     // a pointer over the edge of a page
     (&WIDE, 0x3010, b"\x11\x21\xfc\x1f\x51\x00", Err((28, 0x4))),
     // one that ends at the edge
-    (&WIDE, 0x3010, b"\x11\x21\xf8\x1f\x51\x00", Ok(&[0x1ff8])),
+    (
+        &WIDE,
+        0x3010,
+        b"\x11\x21\xf8\x1f\x51\x00",
+        Ok((&[0x1ff8], b"\x11\x21\xf8\x1f\x51\x00")),
+    ),
     // records that run off the end of the segment, after 512 of them
     (
         &[],
@@ -120,32 +146,48 @@ const CASES: [(&[(usize, u32)], u32, &[u8], Wanted); 26] = [
         Err((24, 0x3)),
     ),
     // nothing
-    (&[], 0x2010, b"", Ok(&[])),
+    (&[], 0x2010, b"", Ok((&[], b"\x11\x00"))),
     // bytes behind the end
-    (&[], 0x2010, b"\x00\x90", Ok(&[])),
+    (&[], 0x2010, b"\x00\x90", Ok((&[], b"\x11\x00"))),
     // each of the opcodes that move and record
     (
         &[],
         0x2010,
         b"\x11\x21\x00\x42\x51\x30\x08\x80\x02\x08\x60\x01",
-        Ok(&[0x1010, 0x1020, 0x1030, 0x1040]),
+        Ok((
+            &[0x1010, 0x1020, 0x1030, 0x1040],
+            b"\x11\x21\x10\x51\x21\x20\x51\x21\x30\x51\x21\x40\x51\x00",
+        )),
     ),
     // a move by less than nothing
     (
         &[],
         0x2010,
         b"\x11\x21\x18\x30\xf8\xff\xff\xff\xff\xff\xff\xff\xff\x01\x51",
-        Ok(&[0x1010]),
+        Ok((&[0x1010], b"\x11\x21\x10\x51\x00")),
     ),
     // the second location below the first
     (
         &[],
         0x2010,
         b"\x11\x21\x18\x51\x21\x10\x51\x00",
-        Ok(&[0x1010, 0x1018]),
+        Ok((&[0x1010, 0x1018], b"\x11\x21\x10\x52\x00")),
+    ),
+    // as many side by side as an immediate has room for, and one more
+    (
+        &[],
+        0x2010,
+        b"\x11\x21\x10\x60\x0f",
+        Ok((&FIFTEEN, b"\x11\x21\x10\x5f\x00")),
+    ),
+    (
+        &[],
+        0x2010,
+        b"\x11\x21\x10\x5f\x51",
+        Ok((&SIXTEEN, b"\x11\x21\x10\x60\x10\x00")),
     ),
     // a segment that isn't there, without a record
-    (&[], 0x2010, b"\x11\x2f\x00\x00", Ok(&[])),
+    (&[], 0x2010, b"\x11\x2f\x00\x00", Ok((&[], b"\x11\x00"))),
     // an operand that ends early, which is tried before the place
     (&[], 0x2010, b"\x11\x60\x80", Err((21, 0x1))),
     // an operand of more than 64 bits
@@ -170,7 +212,12 @@ const CASES: [(&[(usize, u32)], u32, &[u8], Wanted); 26] = [
     // a word that ends behind the section
     (&SHORT, 0x2010, b"\x11\x21\xfc\x0f\x51", Err((26, 0x4))),
     // and one that ends with it
-    (&SHORT, 0x2010, b"\x11\x21\xf8\x0f\x51", Ok(&[0x17f8])),
+    (
+        &SHORT,
+        0x2010,
+        b"\x11\x21\xf8\x0f\x51",
+        Ok((&[0x17f8], b"\x11\x21\xf8\x0f\x51\x00")),
+    ),
     // an odd multiple of two
     (&[], 0x2010, b"\x11\x21\x02\x51", Err((27, 0x3))),
     // an odd multiple of two over a page's edge
@@ -238,6 +285,31 @@ fn are_found(rt: &impl Abort, found: &[Location], addresses: &[u64]) {
     }
 }
 
+// Whether the locations lie in segments that an opcode has room for.
+fn are_low(found: &[Location]) -> bool
+    ensures { result ≡ true → All (λ l. l.segment < 16) found.now }
+{
+    found.iter().all(|l| l.segment < 16)
+}
+
+// The stream that is written for the locations.
+fn is_written(
+    rt: &impl Abort,
+    alloc: Global,
+    image: &Image<'_>,
+    found: &[Location],
+    written: &[u8],
+) -> Result<(), Fail>
+    requires { AreRebases image.now found.now }
+{
+    if !are_low(found) {
+        return Err("segments 0 to 15")?;
+    }
+    let stream = write_rebases(alloc, image, found).ok().ok_or("memory")?;
+    assert_eq!(rt; stream.as_slice(), written);
+    Ok(())
+}
+
 #[test]
 fn streams(rt: HostRuntime) -> Result<(), Fail> {
     let alloc = rt.alloc();
@@ -247,7 +319,10 @@ fn streams(rt: HostRuntime) -> Result<(), Fail> {
             .ok()
             .ok_or("the dylib is read")?;
         match (read_rebases(alloc, image.streams.rebase, &image), wanted) {
-            (Ok(found), Ok(addresses)) => are_found(&rt, &found, addresses),
+            (Ok(found), Ok((addresses, written))) => {
+                are_found(&rt, &found, addresses);
+                is_written(&rt, alloc, &image, &found, written)?;
+            }
             (Err(Fault::Broken(site)), Err(broken)) => {
                 assert_eq!(rt; (site.rule.number(), site.at), broken, "{stream:?}");
             }

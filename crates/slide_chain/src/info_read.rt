@@ -1,9 +1,10 @@
 // Slide information out of its bytes.
-ghost use Rattle.std.specs.Prelude.{◌≡◌, ◌+◌, ◌-◌, ◌*◌, ◌/◌, ◌%◌, ◌^◌, ◌<◌, ◌≤◌, Option, None, true, length, nat_eq, nat_le, IfOk, OnOk, IfErr};
+ghost use Rattle.std.specs.Prelude.{◌≡◌, ◌+◌, ◌-◌, ◌*◌, ◌/◌, ◌%◌, ◌^◌, ◌<◌, ◌≤◌, Option, None, true, length, nat_eq, nat_le, IfOk, OnOk, IfErr, Err};
 ghost use Rattle.std.specs.Int.{trailing_ones, w64};
 ghost use Rattle.dsc_base.specs.Numbers.{number_at};
 ghost use Rattle.dsc_base.specs.Refusals.{IsViewRefusal};
 ghost use Rattle.dsc_base.specs.declared.fault.ViewFault.TheVariants.{Broken};
+ghost use Rattle.dsc_base.specs.declared.finding_kind.FindingKind.TheVariants.{MaskShape};
 ghost use Rattle.slide_chain.specs.Chains.{Slide, IsRun};
 ghost use Rattle.slide_chain.specs.Info.{info_read, halves_at, is_shaped, is_run, info_finding};
 ghost use Rattle.slide_chain.specs.Steps.Shape.{HasShape};
@@ -23,6 +24,8 @@ pub fn read_slide_info(alloc: Global, bytes: &[u8], data_size: u64) -> Result<Sl
     ensures info { IfOk result (λ i. i ≡ info_read bytes.now) }
     ensures sound { OnOk result (info_finding data_size bytes.now ≡ None) }
     ensures run { IfOk result (λ i. IsRun i.mask) }
+    // And a mask that is such a run is none that is refused.
+    ensures no_run { result ≡ Err (Broken (record { kind = MaskShape; image = 0; at = 0x38 })) → ¬ IsRun (number_at 8 bytes.now 24) }
     ensures pages { IfOk result (λ i. length i.starts * 4096 ≡ data_size) }
     ensures cause { IfErr result (IsViewRefusal (info_finding data_size bytes.now)) }
 {

@@ -1,7 +1,7 @@
 -- The numbers fit, since each byte behind leaves room for 128 times as few of them.
 use Rattle.std.proofs.Common.{arith}
 use Rattle.std.proofs.lemmas.Int.{ints}
-use Rattle.dsc_base.proofs.UlebLaws.{room_nine, room_one, room_two, room_step, signed_bits-seven, signed_bits-none, signed_bits-all}
+use Rattle.dsc_base.proofs.StepLaws.{room_nine, room_one, room_two, room_step, signed_bits-seven, signed_bits-none, signed_bits-all}
 use Rattle.dsc_base.proofs.uleb.+front_sleb.Goals as goal
 use Rattle.dsc_base.proofs.uleb.+front_sleb.Goals.{else-left-eq1-via-then-left-eq1+then-byte-gt0+else-byte-lt127, else-left-eq1-via-then-left-eq1+else-byte-gt0, else-left-eq1-via-else-left-eq1}
 

@@ -1,6 +1,6 @@
 -- The numbers fit, since each byte behind leaves room for 128 times as few of them.
 use Rattle.std.proofs.Common.{arith}
-use Rattle.dsc_base.proofs.UlebLaws.{room_nine, room_one, room_two}
+use Rattle.dsc_base.proofs.StepLaws.{room_nine, room_one, room_two}
 use Rattle.dsc_base.proofs.uleb.+front_uleb.Goals as goal
 use Rattle.dsc_base.proofs.uleb.+front_uleb.Goals.{else-left-eq1-via-then-left-eq1+else-byte-gt1, else-left-eq1-via-else-left-eq1}
 

@@ -1,34 +1,39 @@
--- Each fault is the definition's, and so comes where the bytes have it.
-use Rattle.std.proofs.Common.{◌≡◌, ◌+◌, ℕ, arith}
+-- The steps give what the definition says, and so each fault comes where the bytes have it.
+use Rattle.std.proofs.Common.{◌≡◌, ◌+◌, ℕ, ◌∙◌, sym, drop, arith}
 use Rattle.std.proofs.lemmas.Grind.{common_steps}
 use Rattle.std.specs.Prelude.{Result, Ok}
 use Rattle.dsc_base.specs.declared.fault.UlebFault.{UlebFault}
-use Rattle.dsc_base.specs.Uleb.{uleb_at}
+use Rattle.dsc_base.specs.Uleb.{placed}
+use Rattle.dsc_base.specs.Steps.Uleb.{uleb_within}
 use Rattle.dsc_base.proofs.UlebLaws.{too_wide_for, cut_for}
+use Rattle.dsc_base.proofs.GroupLaws.{uleb_at-steps}
 use Rattle.dsc_base.proofs.uleb.read_uleb.Goals as goal
 
+failed : goal.returns-in_err-value-clause-number
+failed c =
+    let e : c.from_residual.result ≡ placed c.args.at (uleb_within 10 (drop c.args.at c.args.bytes.now)) = grind (arith, common_steps) in
+    e ∙ sym (uleb_at-steps c.args.bytes.now c.args.at)
+
+found : goal.returns-clause-number
+found c =
+    let given : Result (ℕ × ℕ) UlebFault = Ok (c.in_ok-value.value, c.args.at + c.in_ok-value.len) in
+    let e : given ≡ placed c.args.at (uleb_within 10 (drop c.args.at c.args.bytes.now)) = grind (arith, common_steps) in
+    e ∙ sym (uleb_at-steps c.args.bytes.now c.args.at)
+
+pub returns-in_err-value-clause-number : goal.returns-in_err-value-clause-number
+returns-in_err-value-clause-number c = failed c
+
+pub returns-clause-number : goal.returns-clause-number
+returns-clause-number c = found c
+
 pub returns-in_err-value-clause-too_wide : goal.returns-in_err-value-clause-too_wide
-unfolding uleb_at
-returns-in_err-value-clause-too_wide c =
-    let e : c.from_residual.result ≡ uleb_at c.args.bytes.now c.args.at = grind (arith, common_steps) in
-    too_wide_for c.args.bytes.now c.args.at c.from_residual.result e
+returns-in_err-value-clause-too_wide c = too_wide_for c.args.bytes.now c.args.at c.from_residual.result (failed c)
 
 pub returns-clause-too_wide : goal.returns-clause-too_wide
-unfolding uleb_at
-returns-clause-too_wide c =
-    let given : Result (ℕ × ℕ) UlebFault = Ok (c.in_ok-value.value, c.args.at + c.in_ok-value.len) in
-    let e : given ≡ uleb_at c.args.bytes.now c.args.at = grind (arith, common_steps) in
-    too_wide_for c.args.bytes.now c.args.at given e
+returns-clause-too_wide c = too_wide_for c.args.bytes.now c.args.at (Ok (c.in_ok-value.value, c.args.at + c.in_ok-value.len)) (found c)
 
 pub returns-in_err-value-clause-ended : goal.returns-in_err-value-clause-ended
-unfolding uleb_at
-returns-in_err-value-clause-ended c =
-    let e : c.from_residual.result ≡ uleb_at c.args.bytes.now c.args.at = grind (arith, common_steps) in
-    cut_for c.args.bytes.now c.args.at c.from_residual.result e
+returns-in_err-value-clause-ended c = cut_for c.args.bytes.now c.args.at c.from_residual.result (failed c)
 
 pub returns-clause-ended : goal.returns-clause-ended
-unfolding uleb_at
-returns-clause-ended c =
-    let given : Result (ℕ × ℕ) UlebFault = Ok (c.in_ok-value.value, c.args.at + c.in_ok-value.len) in
-    let e : given ≡ uleb_at c.args.bytes.now c.args.at = grind (arith, common_steps) in
-    cut_for c.args.bytes.now c.args.at given e
+returns-clause-ended c = cut_for c.args.bytes.now c.args.at (Ok (c.in_ok-value.value, c.args.at + c.in_ok-value.len)) (found c)

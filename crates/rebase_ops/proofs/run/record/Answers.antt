@@ -8,16 +8,16 @@ use Rattle.rebase_ops.proofs.run.record.Goals as goal
 
 pub loop-init : goal.loop-init
 loop-init c =
-    running_start (location c.args.image.now c.args.cursor.segment) (record_fault c.args.image.now c.args.cursor) c.args.cursor.offset c.args.step c.args.count c.args.out.now.items (omega arith)
+    running_start (location c.args.image.now c.args.cursor.segment) (record_fault c.args.image.now c.args.cursor.segment) c.args.cursor.offset c.args.step c.args.count c.args.out.now.items (omega arith)
 
 pub returns-in-Err-clause-cause : goal.returns-in-Err-clause-cause
 returns-in-Err-clause-cause c =
     ap (λ (o : Option Rule). option_map (site_of c.args.at) o)
-    (running_fault (location c.args.image.now c.args.cursor.segment) (record_fault c.args.image.now c.args.cursor) c.args.cursor.offset c.args.step c.args.count c.args.out.now.items c.loop.counter c.loop.offset c.loop.out.items c.len.result c.in-Err.rule
+    (running_fault (location c.args.image.now c.args.cursor.segment) (record_fault c.args.image.now c.args.cursor.segment) c.args.cursor.offset c.args.step c.args.count c.args.out.now.items c.loop.counter c.loop.offset c.loop.out.items c.len.result c.in-Err.rule
     c.loop.invariant c.loop-test.true (c.len.ensures ∙ c.loop.out.ok.0) c.in-Err.ensures)
 
 pub loop-preserved : goal.loop-preserved
 loop-preserved c =
-    running_step (location c.args.image.now c.args.cursor.segment) (record_fault c.args.image.now c.args.cursor) c.args.cursor.offset c.args.step c.args.count c.args.out.now.items c.loop.counter c.loop.offset c.loop.out.items c.len.result
+    running_step (location c.args.image.now c.args.cursor.segment) (record_fault c.args.image.now c.args.cursor.segment) c.args.cursor.offset c.args.step c.args.count c.args.out.now.items c.loop.counter c.loop.offset c.loop.out.items c.len.result
     ((c.loop.offset + c.args.step) % 2 ^ 64) c.in-Ok.location c.push.new.self.items
     c.loop.invariant c.loop-test.true (c.len.ensures ∙ c.loop.out.ok.0) c.in-Ok.ensures c.in_ok-push-in-Ok.ensures.items refl

@@ -1,10 +1,11 @@
 use Rattle.std.proofs.Common.{◌≡◌, ◌∙◌, List, ℕ, length, sym, ap, ap₂, subst, arith, true, false}
+use Rattle.std.proofs.lemmas.Bool.{false≢true}
 use Rattle.dsc_base.specs.Numbers.{number_at}
 use Rattle.slide_chain.specs.Chains.{Slide}
 use Rattle.dsc_base.specs.Refusals.{IsViewRefusal}
 use Rattle.slide_chain.specs.Info.{is_shaped, is_run, info_finding, info_read, halves_at}
 use Rattle.slide_chain.specs.Steps.Shape.{HasShape}
-use Rattle.slide_chain.proofs.InfoLaws.{finding-shape, finding-mask, finding-none, length-halves_at}
+use Rattle.slide_chain.proofs.InfoLaws.{finding-shape, finding-mask, finding-none, length-halves_at, is_run-from}
 use Rattle.slide_chain.proofs.info_read.read_slide_info.Goals as goal
 
 pub returns-then-not-is_shaped-clause-cause : goal.returns-then-not-is_shaped-clause-cause
@@ -16,6 +17,11 @@ returns-then-not-is_run-clause-cause c =
     let shaped : is_shaped c.args.data_size c.args.bytes.now ≡ true = sym c.is_shaped.ensures.test ∙ c.if-not-is_shaped.false in
     let fails : is_run (number_at 8 c.args.bytes.now 24) ≡ false = ap is_run (sym c.get_u64-mask.ensures) ∙ (sym c.is_run.ensures.test ∙ c.if-not-is_run.true) in
     subst (IsViewRefusal (info_finding c.args.data_size c.args.bytes.now)) (sym c.found-then-not-is_run.ensures) (finding-mask c.args.data_size c.args.bytes.now shaped fails)
+
+pub returns-then-not-is_run-clause-no_run : goal.returns-then-not-is_run-clause-no_run
+returns-then-not-is_run-clause-no_run c = λ _ run.
+    let fails : is_run (number_at 8 c.args.bytes.now 24) ≡ false = ap is_run (sym c.get_u64-mask.ensures) ∙ (sym c.is_run.ensures.test ∙ c.if-not-is_run.true) in
+    false≢true (sym fails ∙ is_run-from (number_at 8 c.args.bytes.now 24) run)
 
 pub returns-clause-info : goal.returns-clause-info
 unfolding info_read
