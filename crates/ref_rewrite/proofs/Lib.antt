@@ -1,7 +1,9 @@
 pub mod BoundLaws
 pub mod ChainedLaws
 pub mod CopyLaws
+pub mod FitLaws
 pub mod FollowsLaws
+pub mod HomeLaws
 pub mod JoinedLaws
 pub mod PlacedLaws
 pub mod PlanLaws

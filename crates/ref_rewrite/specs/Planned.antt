@@ -90,3 +90,15 @@ plan_in l set placed k image = plan_of l set.images k image (streams_at set k) (
 
 unfoldable pub plans_of : Laid → ImageSet → List (List PlacedWord) → List Plan
 plans_of l set placed = numbered (plan_in l set placed) set.images
+
+-- ---- the same with headers
+
+-- a header for each image, as long as its own
+abbrev pub AreSized : List (List ℕ) → List Img → Type 0
+AreSized headers images = (k : ℕ) (image : Img) → slice_get images k ≡ Some image → length (slice_index_or headers k []) ≡ length image.header
+
+abbrev pub with_header : List (List ℕ) → ℕ → Plan → Plan
+with_header headers k p = record p { header = slice_index_or headers k [] }
+
+abbrev pub with_headers : List (List ℕ) → List Plan → List Plan
+with_headers headers plans = numbered (with_header headers) plans
