@@ -1,14 +1,13 @@
 -- The plans of a set, once each has its header, are for the ranges of the set's layout: the images' parts follow one another, and all that is written for an image lies in its parts.
-use Rattle.std.proofs.Common.{◌≡◌, ◌≤◌, ◌<◌, ◌⊎◌, ℕ, zero, suc, ◌+◌, ◌-◌, ◌^◌, ◌%◌, Bool, true, false, not, Option, Some, None, List, [], ◌∷◌, ◌++◌, length, map, filter, take, get_or, refl, sym, ap, ap₂, ◌∙◌, subst, arith, inl, inr, append_assoc, length-append}
+use Rattle.std.proofs.Common.{◌≡◌, ◌≤◌, ◌<◌, ◌⊎◌, ℕ, ◌+◌, ◌-◌, Bool, true, false, not, Option, Some, None, List, [], ◌∷◌, ◌++◌, length, map, filter, take, get_or, refl, sym, ap, ◌∙◌, subst, arith, inl, inr, append_assoc, length-append}
 use Rattle.std.specs.Prelude.{slice_get, slice_index_or, position}
-use Rattle.std.specs.List.{All, enumerate_from, sum_by}
-use Rattle.std.proofs.lemmas.Bool.{cases_Bool}
+use Rattle.std.specs.List.{All, enumerate_from}
 use Rattle.std.proofs.lemmas.List.{append-nil, take_at, get_or_default}
 use Rattle.std.proofs.lemmas.List.Elements.{All-append, All-map, All-filter, All-same, filter_passes}
 use Rattle.std.proofs.lemmas.List.FromFn.{length-enumerate_from, get_or-enumerate_from}
 use Rattle.std.proofs.lemmas.List.Sums.{sum_by_push}
 use Rattle.std.proofs.lemmas.Option.{slice_get_read, slice_get-get_or, slice_get_within, get_or_from_slice_get}
-use Rattle.dsc_base.specs.Region.{region_start, paged}
+use Rattle.dsc_base.specs.Region.{paged}
 use Rattle.dsc_base.specs.declared.edits.Edit.{Edit}
 use Rattle.dsc_base.specs.declared.fault.Span.{Span}
 use Rattle.dsc_base.specs.declared.rule.Rule.TheVariants.{SplitOverlap}
@@ -19,7 +18,7 @@ use Rattle.macho_image.specs.Rules.{is_linkedit_segment}
 use Rattle.macho_image.specs.Breaks.{IsSound}
 use Rattle.macho_image.specs.declared.place.Location.{Location}
 use Rattle.macho_image.specs.declared.place.Moved.{Moved}
-use Rattle.macho_image.specs.Places.{IsWord, wrap, above}
+use Rattle.macho_image.specs.Places.{IsWord, above}
 use Rattle.macho_image.specs.Segments.{start_of, is_text_segment}
 use Rattle.macho_image.proofs.AboveLaws.{above_plain}
 use Rattle.macho_image.proofs.HeaderLaws.{text_position}
@@ -29,17 +28,17 @@ use Rattle.split_info.specs.declared.reference.Reference.{Reference}
 use Rattle.split_info.specs.declared.reference.RefKind.{RefKind}
 use Rattle.split_info.specs.declared.reference.RefKind.TheVariants.{Pointer64, Delta32, Delta64, ImageOff32}
 use Rattle.split_info.specs.References.{width_of}
-use Rattle.split_info.specs.Split.{references_of, spelled_of, reading_break, split_break, IsReference, AreReferences}
+use Rattle.split_info.specs.Split.{references_of, spelled_of, reading_break, split_break, IsReference}
 use Rattle.split_info.specs.Overlap.{overlap_at}
 use Rattle.split_info.proofs.AcceptLaws.{accepted}
 use Rattle.prebind.specs.declared.resolved.PlacedWord.{PlacedWord}
 use Rattle.prebind.specs.Sets.{StreamLists, ImageSet, IsSplitRead, IsSoundSet}
-use Rattle.prebind.specs.Words.{Word, pointer_word, reference_word, is_no_pointer, streams_in, streams_at, pointers_of, ArePlaced}
+use Rattle.prebind.specs.Words.{Word, pointer_word, reference_word, is_no_pointer, streams_in, streams_at}
 use Rattle.cache_layout.specs.declared.mapping.Mapping.{Mapping}
 use Rattle.cache_layout.specs.declared.mapping.Mapping.TheVariants.{Text, Writable, Fixed}
 use Rattle.cache_layout.specs.Places.{segments_room, images_room, mapping_start, image_start, numbered}
 use Rattle.cache_layout.specs.Layouts.{Laid, layout_of, layout_break}
-use Rattle.cache_layout.specs.Apart.{IsSegment, AreInTurn, IsWithin, move_at, range_in}
+use Rattle.cache_layout.specs.Apart.{IsSegment, AreInTurn, move_at, range_in}
 use Rattle.cache_layout.proofs.NumberedLaws.{numbered-get, length-numbered}
 use Rattle.cache_layout.proofs.PlaceLaws.{place_of, mapped, move_at-own, range_in-is, are_in_turn, are_within}
 use Rattle.cache_layout.proofs.RoomLaws.{paged-covers}
@@ -47,7 +46,7 @@ use Rattle.cache_layout.proofs.SoundLaws.{sound_linkedit}
 use Rattle.cache_layout.proofs.SpaceLaws.{sound_space}
 use Rattle.cache_layout.proofs.SpanLaws.{place-starts, place-in_image}
 use Rattle.ref_rewrite.specs.Moving.{move_or_none, header_move, new_offset, edit_of}
-use Rattle.ref_rewrite.specs.Plans.{Part, Plan, Follows, IsInside, IsOwn, IsSoundPlan, ShareNone, Fit}
+use Rattle.ref_rewrite.specs.Plans.{Part, Plan, Follows, IsInside, IsOwn, IsSoundPlan, Fit}
 use Rattle.ref_rewrite.specs.Planned.{AreSplitRead, IsLayout, AreAllPlaced, is_copied, copy_of, copies_of, words_with, span_in, plan_of, plan_in, plans_of, AreSized, with_header, with_headers}
 use Rattle.ref_rewrite.proofs.HomeLaws.{bytes_fit, header_fits, two_segments, section_owned}
 use Rattle.ref_rewrite.proofs.PlacedLaws.{placed_words}
@@ -297,7 +296,36 @@ plans_fit set placed headers given =
   where
     no_image : Img
     no_image = record {
-      install_name = []; segments = []; sections = []; dependencies = [];
+      install_name = [];
+      segments = [];
+      sections = [];
+      dependencies = [];
       streams = record { rebase = []; bind = []; weak = []; lazy = []; exports = []; split = None; function_starts = []; data_in_code = []; symbols = []; strings = []; indirect = [] };
-      groups = []; uuid = []; has_dyld_info = false; header = [];
+      groups = [];
+      uuid = [];
+      has_dyld_info = false;
+      header = [];
     }
+
+-- plans that were made, with values that fit
+pub made_fit : (l : Laid) (set : ImageSet) (placed : List (List PlacedWord)) (plans : List Plan) (headers : List (List ℕ)) → IsSoundSet set → AreSplitRead set → IsLayout l set.images → AreAllPlaced set placed → All IsSound set.images
+    → plans ≡ plans_of l set placed → All (λ (p : Plan). AllFit p.edits) plans → AreSized headers set.images → Fit l.text.len l.writable.len l.fixed.len (with_headers headers plans)
+unfolding plans_of
+made_fit l set placed plans headers sound read layout placed_all images made fits sized =
+    let is : List Img = set.images in
+    let own : Laid = layout_of is in
+    let same : plans ≡ plans_of own set placed = made ∙ ap (λ (laid : Laid). plans_of laid set placed) layout.is in
+    let fitted : All (λ (p : Plan). AllFit p.edits) (numbered (plan_in own set placed) is) = All-same (λ (p : Plan). AllFit p.edits) (numbered (plan_in own set placed) is) plans (sym same) fits in
+    let given : IsPlanned set placed headers = record {
+      sound = sound;
+      read = read;
+      none = layout.fits;
+      placed_all = placed_all;
+      images = λ k i lt at. subst IsSound (sym at) (images k i lt);
+      sized = sized;
+      values = λ k i lt at.
+          let d : Plan = plan_in own set placed k i in
+          subst (λ (p : Plan). AllFit p.edits) (numbered-get (plan_in own set placed) is k i d lt at) (fitted k d (omega (arith, lt, length-numbered (plan_in own set placed) is)));
+    } in
+    subst (λ (laid : Laid). Fit laid.text.len laid.writable.len laid.fixed.len (with_headers headers plans)) (sym layout.is)
+    (subst (λ (ps : List Plan). Fit own.text.len own.writable.len own.fixed.len (with_headers headers ps)) (sym same) (plans_fit set placed headers given))

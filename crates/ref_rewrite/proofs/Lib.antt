@@ -1,6 +1,7 @@
 pub mod BoundLaws
 pub mod ChainedLaws
 pub mod CopyLaws
+pub mod EditFits
 pub mod FitLaws
 pub mod FollowsLaws
 pub mod HomeLaws

@@ -1,14 +1,17 @@
 // What is planned for the images of a set.
-ghost use Rattle.std.specs.Prelude.{◌≡◌, ◌++◌, map, length, Some, slice_get, option_map, IfOk};
+ghost use Rattle.std.specs.Prelude.{◌≡◌, ◌++◌, ℕ, List, map, length, Some, slice_get, option_map, IfOk};
 ghost use Rattle.std.specs.List.{list_any};
 ghost use Rattle.std.specs.List.Sorted.{IsNonDecreasingBy};
 ghost use Rattle.dsc_base.specs.Refusals.{in_image, Refuses, RefusesSet};
 ghost use Rattle.prebind.specs.Words.{pointer_word, streams_at, pointers_of, ArePlaced};
+ghost use Rattle.dsc_base.specs.Edits.{AllFit};
+ghost use Rattle.macho_image.specs.Breaks.{IsSound};
 ghost use Rattle.prebind.specs.Sets.{IsSoundSet};
 ghost use Rattle.prebind.specs.Steps.{set_of};
 ghost use Rattle.cache_layout.specs.declared.mapping.Mapping.{Mapping};
 ghost use Rattle.ref_rewrite.specs.Breaks as breaks;
 ghost use Rattle.ref_rewrite.specs.Moving.{edit_of};
+ghost use Rattle.ref_rewrite.specs.Plans.{Fit};
 ghost use Rattle.ref_rewrite.specs.Planned as spec;
 ghost use Rattle.ref_rewrite.specs.Spans.{span_of};
 ghost use Rattle.ref_rewrite.specs.Steps as steps;
@@ -36,6 +39,7 @@ fn edits(
 ) -> Result<(Vec<Edit>, bool), NoMemory>
     requires { steps.IsMoving moving.now }
     ensures edits { IfOk result (λ r. r.0.items ≡ map (edit_of moving.now.layout.now moving.now.number moving.now.segments.now) (map pointer_word words.now) ++ steps.edits_of moving.now.layout.now moving.now.number moving.now.segments.now streams.now.references) }
+    ensures fit { IfOk result (λ r. AllFit r.0.items) }
     ensures misfits { IfOk result (λ r. r.1 ≡ list_any (steps.misfits moving.now.layout.now moving.now.number moving.now.segments.now) streams.now.references) }
 {
     let references = streams.references.as_slice();
@@ -74,6 +78,7 @@ fn plan_image<'a>(
     requires order { IsNonDecreasingBy (λ w. w.at.address) words.now }
     requires belong { steps.Belong words.now moving.now.segments.now }
     ensures plan { IfOk result (λ p. p ≡ steps.plan_with moving.now.layout.now moving.now.number moving.now.segments.now streams.now.references words.now parts.now) }
+    ensures fit { IfOk result (λ p. AllFit p.edits) }
     ensures cause { Refuses (steps.break_with moving.now.layout.now moving.now.number moving.now.segments.now streams.now words.now) result }
 {
     let (edits, misfit) = edits(alloc, moving, streams, words)?;
@@ -107,6 +112,8 @@ fn plan_at<'a>(
     requires placed { ArePlaced (pointers_of (set_of set.now) number) words.now }
     requires parts { (m : Mapping) → span_of parts.now m ≡ spec.span_in m set.now.images.now number image.now }
     ensures plan { IfOk result (λ p. p ≡ spec.plan_of layout.now set.now.images.now number image.now (streams_at (set_of set.now) number) words.now) }
+    ensures fit { IfOk result (λ p. AllFit p.edits) }
+    ensures sound { IsSound image.now }
     ensures cause { RefusesSet (option_map (in_image number) (breaks.image_break layout.now (set_of set.now) number)) result }
 {
     image.facts();
@@ -139,6 +146,7 @@ pub fn plan<'a>(
     requires layout { spec.IsLayout layout.now set.now.images.now }
     requires placed { spec.AreAllPlaced (set_of set.now) (map (λ v. v.items) placed.now) }
     ensures plans { IfOk result (λ v. v.items ≡ spec.plans_of layout.now (set_of set.now) (map (λ v. v.items) placed.now)) }
+    ensures fit { IfOk result (λ v. (headers : List (List ℕ)) → spec.AreSized headers set.now.images.now → Fit layout.now.text.len layout.now.writable.len layout.now.fixed.len (spec.with_headers headers v.items)) }
     ensures cause { RefusesSet (breaks.rewrite_break layout.now (set_of set.now)) result }
 {
     let mut parts = Parts::at_start(layout);

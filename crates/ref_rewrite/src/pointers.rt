@@ -1,5 +1,6 @@
 // The pointers of an image in a cache: the numbers that lead to their targets, and those that are chained.
-ghost use Rattle.std.specs.Prelude.{◌≡◌, ◌++◌, map, OnOk};
+ghost use Rattle.std.specs.Prelude.{◌≡◌, ◌<◌, ◌^◌, ◌++◌, map, OnOk};
+ghost use Rattle.dsc_base.specs.Edits.{AllFit};
 ghost use Rattle.prebind.specs.Words.{pointer_word};
 ghost use Rattle.ref_rewrite.specs.Moving.{edit_of};
 ghost use Rattle.ref_rewrite.specs.Steps.{IsMoving};
@@ -11,7 +12,8 @@ use prebind::{PlacedWord, WordTarget};
 #[tactic(auto, unfolding(crate::specs::Moving::new_number, prebind::specs::Numbers::number_to, prebind::specs::Numbers::cut_to, prebind::specs::Numbers::counted_to))]
 fn pointer_edit(moving: &Moving<'_, '_>, word: &PlacedWord) -> Edit
     requires { IsMoving moving.now }
-    ensures { result ≡ edit_of moving.now.layout.now moving.now.number moving.now.segments.now (pointer_word word.now) }
+    ensures edit { result ≡ edit_of moving.now.layout.now moving.now.number moving.now.segments.now (pointer_word word.now) }
+    ensures fits { result.value < 256 ^ result.width }
 {
     let value = match word.target {
         WordTarget::Place {
@@ -35,7 +37,8 @@ pub(crate) fn push_pointers(
     edits: &mut Vec<Edit>,
 ) -> Result<(), NoMemory>
     requires { IsMoving moving.now }
-    ensures { OnOk result (edits.new.items ≡ edits.old.items ++ map (edit_of moving.now.layout.now moving.now.number moving.now.segments.now) (map pointer_word words.now)) }
+    ensures edits { OnOk result (edits.new.items ≡ edits.old.items ++ map (edit_of moving.now.layout.now moving.now.number moving.now.segments.now) (map pointer_word words.now)) }
+    ensures fit { OnOk result (AllFit edits.old.items → AllFit edits.new.items) }
 {
     for word in words {
         edits.push(pointer_edit(moving, word))?;

@@ -1,9 +1,11 @@
 // The references of an image in a cache that are no pointers: the numbers that lead to their targets.
-ghost use Rattle.std.specs.Prelude.{◌≡◌, ◌++◌, ◌∷◌, [], not, position, IfOk};
+ghost use Rattle.std.specs.Prelude.{◌≡◌, ◌<◌, ◌^◌, ◌++◌, ◌∷◌, [], not, position, IfOk};
 ghost use Rattle.std.specs.List.{list_any};
+ghost use Rattle.dsc_base.specs.Edits.{AllFit};
 ghost use Rattle.dsc_base.specs.Refusals.{broken, first_break, Refuses};
 ghost use Rattle.dsc_base.specs.declared.rule.Rule.TheVariants as rules;
 ghost use Rattle.macho_image.specs.Places.{wrap};
+ghost use Rattle.split_info.specs.References.{width_of};
 ghost use Rattle.prebind.specs.Numbers as numbers;
 ghost use Rattle.prebind.specs.Targets.{reference_number};
 ghost use Rattle.prebind.specs.Words.{reference_word, is_no_pointer};
@@ -82,7 +84,8 @@ fn fits(kind: RefKind, number: u64) -> bool
 /// A number as far as the bytes of a word go.
 #[tactic(auto, unfolding(prebind::specs::Numbers::cut_to))]
 fn cut_to(kind: RefKind, number: u64) -> u64
-    ensures { result ≡ numbers.cut_to kind number }
+    ensures value { result ≡ numbers.cut_to kind number }
+    ensures fits { result < 256 ^ width_of kind }
 {
     match kind {
         RefKind::Delta32 | RefKind::ImageOff32 => number % (1 << 32),
@@ -110,7 +113,8 @@ fn new_count(moving: &Moving<'_, '_>, reference: &Reference) -> u64
 fn reference_edit(moving: &Moving<'_, '_>, reference: &Reference, count: u64) -> Edit
     requires moving { steps.IsMoving moving.now }
     requires count { count ≡ steps.new_count moving.now.layout.now moving.now.number moving.now.segments.now reference.now }
-    ensures { result ≡ spec.edit_of moving.now.layout.now moving.now.number moving.now.segments.now (reference_word moving.now.number [] moving.now.segments.now reference.now) }
+    ensures fits { result.value < 256 ^ result.width }
+    ensures edit { result ≡ spec.edit_of moving.now.layout.now moving.now.number moving.now.segments.now (reference_word moving.now.number [] moving.now.segments.now reference.now) }
 {
     Edit {
         at: moving.place(reference.from_segment, reference.from).file,
@@ -133,6 +137,7 @@ fn push_reference(
 ) -> Result<bool, NoMemory>
     requires { steps.IsMoving moving.now }
     ensures edits { IfOk result (λ misfit. edits.new.items ≡ edits.old.items ++ steps.edits_of moving.now.layout.now moving.now.number moving.now.segments.now (reference.now ∷ [])) }
+    ensures fit { IfOk result (λ misfit. AllFit edits.old.items → AllFit edits.new.items) }
     ensures misfits { IfOk result (λ misfit. misfit ≡ steps.misfits moving.now.layout.now moving.now.number moving.now.segments.now reference.now) }
 {
     if is_pointer(reference) {
@@ -152,6 +157,7 @@ pub(crate) fn push_references(
 ) -> Result<bool, NoMemory>
     requires { steps.IsMoving moving.now }
     ensures edits { IfOk result (λ misfit. edits.new.items ≡ edits.old.items ++ steps.edits_of moving.now.layout.now moving.now.number moving.now.segments.now references.now) }
+    ensures fit { IfOk result (λ misfit. AllFit edits.old.items → AllFit edits.new.items) }
     ensures misfits { IfOk result (λ misfit. misfit ≡ list_any (steps.misfits moving.now.layout.now moving.now.number moving.now.segments.now) references.now) }
 {
     let mut misfit = false;
