@@ -1,5 +1,16 @@
+pub mod BoundLaws
+pub mod ChainedLaws
+pub mod CopyLaws
+pub mod EditFits
+pub mod FitLaws
 pub mod FollowsLaws
+pub mod HomeLaws
 pub mod JoinedLaws
+pub mod PlacedLaws
+pub mod PlanLaws
+pub mod ReferenceLaws
 pub mod RewrittenLaws
 mod RunLaws
+pub mod SetLaws
+mod SpanFacts
 mod SpanLaws
