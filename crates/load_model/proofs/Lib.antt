@@ -1,5 +1,6 @@
 pub mod AcceptLaws
 pub mod AcceptedFiles
+pub mod BoundLaws
 pub mod CellLaws
 pub mod FilesLaws
 pub mod FirstLaws
