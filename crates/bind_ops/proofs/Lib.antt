@@ -1,2 +1,3 @@
 pub mod BindLaws
 pub mod ClashLaws
+pub mod EffectLaws

@@ -3,4 +3,5 @@ pub mod Clash
 pub mod Faults
 pub mod Opcodes
 pub mod Records
+pub mod Steps
 pub mod Weak

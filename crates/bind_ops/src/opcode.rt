@@ -1,6 +1,7 @@
 // Bind opcodes, read one at a time.
 ghost use Rattle.std.specs.Prelude.{◌≡◌, ◌<◌, ◌≤◌, ◌+◌, length, IfOk};
 ghost use Rattle.bind_ops.specs.Opcodes as spec;
+ghost use Rattle.bind_ops.specs.Steps.Effects.{effect_read};
 ghost use Rattle.macho_image.specs.Places.{wrap};
 
 use crate::fault::BindFault;
@@ -56,19 +57,19 @@ const WEAK_LOOKUP: u8 = 0xD;
 
 /// What an opcode does. Distances and steps count in bytes, modulo 2^64.
 #[derive(Drop)]
-pub(crate) enum BindOpcode<'a> {
+pub(crate) enum Effect<'a> {
     /// Ends the bind stream, and does nothing in the lazy one.
-    Done,
-    SetOrdinal(u64),
-    SetSymbol(Symbol<'a>),
-    SetPointerType,
-    SetAddend(i64),
+    Ends,
+    SetsOrdinal(u64),
+    SetsSymbol(Symbol<'a>),
+    SetsPointerType,
+    SetsAddend(i64),
     /// Begins at an offset from the start of a segment, which is given by its number.
-    SetPlace { segment: u32, offset: u64 },
+    SetsPlace { segment: u32, offset: u64 },
     /// Moves on without a record.
-    Advance { distance: u64 },
+    Advances { distance: u64 },
     /// Records so many words, each a step behind the one before it, and moves a step behind the last.
-    Record { count: u64, step: u64 },
+    Records { count: u64, step: u64 },
 }
 
 // An operand and the place behind it.
@@ -111,74 +112,74 @@ fn special_ordinal(immediate: u8) -> Result<u64, BindFault>
 }
 
 // So many words, each so many bytes behind the end of the one before it.
-fn records<'a>(count: u64, skip: u64) -> BindOpcode<'a>
-    ensures { result ≡ BindOpcode.Record count (wrap (8 + skip)) }
+fn records<'a>(count: u64, skip: u64) -> Effect<'a>
+    ensures { result ≡ Effect.Records count (wrap (8 + skip)) }
 {
-    BindOpcode::Record {
+    Effect::Records {
         count,
         step: POINTER.wrapping_add(skip),
     }
 }
 
-// An opcode that sets what words are bound to.
+// What an opcode does that sets what words are bound to.
 #[tactic(auto, unfolding(crate::specs::Opcodes::target_with))]
 fn target_with<'a>(
     number: u8,
     immediate: u8,
     stream: &'a [u8],
     at: usize,
-) -> Result<(BindOpcode<'a>, usize), BindFault>
+) -> Result<(Effect<'a>, usize), BindFault>
     requires { at ≤ length stream.now }
-    ensures value { result ≡ spec.target_with number immediate stream.entry.now at }
+    ensures value { result ≡ effect_read (spec.target_with number immediate stream.entry.now at) }
     ensures within { IfOk result (λ p. (at ≤ p.1) × (p.1 ≤ length stream.entry.now)) }
 {
     match number {
-        SET_DYLIB_ORDINAL_IMM => Ok((BindOpcode::SetOrdinal(u64::from(immediate)), at)),
+        SET_DYLIB_ORDINAL_IMM => Ok((Effect::SetsOrdinal(u64::from(immediate)), at)),
         SET_DYLIB_ORDINAL_ULEB => {
             let (ordinal, next) = operand(stream, at)?;
-            Ok((BindOpcode::SetOrdinal(ordinal), next))
+            Ok((Effect::SetsOrdinal(ordinal), next))
         }
         SET_DYLIB_SPECIAL_IMM => {
             let ordinal = special_ordinal(immediate)?;
-            Ok((BindOpcode::SetOrdinal(ordinal), at))
+            Ok((Effect::SetsOrdinal(ordinal), at))
         }
         SET_SYMBOL_TRAILING_FLAGS_IMM => {
             let weak = immediate % FLAGS_BELOW_WEAK_IMPORT == 1;
             match read_symbol(stream, at, weak) {
-                Ok((symbol, next)) => Ok((BindOpcode::SetSymbol(symbol), next)),
+                Ok((symbol, next)) => Ok((Effect::SetsSymbol(symbol), next)),
                 Err(fault) => Err(fault),
             }
         }
-        SET_TYPE_IMM if immediate == POINTER_TYPE => Ok((BindOpcode::SetPointerType, at)),
+        SET_TYPE_IMM if immediate == POINTER_TYPE => Ok((Effect::SetsPointerType, at)),
         SET_TYPE_IMM => Err(BindFault::BadType),
         _ => {
             let (addend, next) = signed_operand(stream, at)?;
-            Ok((BindOpcode::SetAddend(addend), next))
+            Ok((Effect::SetsAddend(addend), next))
         }
     }
 }
 
-// An opcode that moves to the next word, or records words.
+// What an opcode does that moves to the next word, or records words.
 #[tactic(auto, unfolding(crate::specs::Opcodes::place_with))]
 fn place_with<'a>(
     number: u8,
     immediate: u8,
     stream: &'a [u8],
     at: usize,
-) -> Result<(BindOpcode<'a>, usize), BindFault>
+) -> Result<(Effect<'a>, usize), BindFault>
     requires { at ≤ length stream.now }
-    ensures value { result ≡ spec.place_with number immediate stream.entry.now at }
+    ensures value { result ≡ effect_read (spec.place_with number immediate stream.entry.now at) }
     ensures within { IfOk result (λ p. (at ≤ p.1) × (p.1 ≤ length stream.entry.now)) }
 {
     match number {
         SET_SEGMENT_AND_OFFSET_ULEB => {
             let (offset, next) = operand(stream, at)?;
             let segment = u32::from(immediate);
-            Ok((BindOpcode::SetPlace { segment, offset }, next))
+            Ok((Effect::SetsPlace { segment, offset }, next))
         }
         ADD_ADDR_ULEB => {
             let (distance, next) = operand(stream, at)?;
-            Ok((BindOpcode::Advance { distance }, next))
+            Ok((Effect::Advances { distance }, next))
         }
         DO_BIND => Ok((records(1, 0), at)),
         DO_BIND_ADD_ADDR_ULEB => {
@@ -196,20 +197,20 @@ fn place_with<'a>(
     }
 }
 
-// The opcode with a number and an immediate, whose operands begin at a place, and the place behind them.
+// What the opcode with a number and an immediate, whose operands begin at a place, does, and the place behind them.
 #[tactic(auto, unfolding(crate::specs::Opcodes::opcode_with))]
 fn opcode_with<'a>(
     number: u8,
     immediate: u8,
     stream: &'a [u8],
     at: usize,
-) -> Result<(BindOpcode<'a>, usize), BindFault>
+) -> Result<(Effect<'a>, usize), BindFault>
     requires { at ≤ length stream.now }
-    ensures value { result ≡ spec.opcode_with number immediate stream.entry.now at }
+    ensures value { result ≡ effect_read (spec.opcode_with number immediate stream.entry.now at) }
     ensures within { IfOk result (λ p. (at ≤ p.1) × (p.1 ≤ length stream.entry.now)) }
 {
     if number == DONE {
-        Ok((BindOpcode::Done, at))
+        Ok((Effect::Ends, at))
     } else if number <= SET_ADDEND_SLEB {
         target_with(number, immediate, stream, at)
     } else {
@@ -217,14 +218,11 @@ fn opcode_with<'a>(
     }
 }
 
-/// The opcode at a place and the place behind it, or why it is refused.
+/// What the opcode at a place does and the place behind it, or why it is refused.
 #[tactic(auto, unfolding(crate::specs::Opcodes::opcode_at))]
-pub(crate) fn read_opcode<'a>(
-    stream: &'a [u8],
-    at: usize,
-) -> Result<(BindOpcode<'a>, usize), BindFault>
+pub(crate) fn read_opcode<'a>(stream: &'a [u8], at: usize) -> Result<(Effect<'a>, usize), BindFault>
     requires { at < length stream.now }
-    ensures value { result ≡ spec.opcode_at stream.entry.now at }
+    ensures value { result ≡ effect_read (spec.opcode_at stream.entry.now at) }
     ensures within { IfOk result (λ p. (at < p.1) × (p.1 ≤ length stream.entry.now)) }
 {
     let byte = stream[at];

@@ -4,29 +4,30 @@ ghost use Rattle.std.specs.List.Sorted.{IsPermutation, IsNonDecreasingBy};
 ghost use Rattle.dsc_base.specs.declared.fault.Fault.TheVariants as faults;
 ghost use Rattle.dsc_base.specs.Refusals.{Refuses};
 ghost use Rattle.bind_ops.specs.Binds as spec;
-ghost use Rattle.bind_ops.specs.Opcodes.{ends, spelling};
+ghost use Rattle.bind_ops.specs.Opcodes.{spelling};
+ghost use Rattle.bind_ops.specs.Steps.Effects.{settings_of, effect_ends};
 ghost use Rattle.macho_image.specs.Streams.{opcodes_of, records, reading_break};
 
 use crate::fault::BindFault;
-use crate::opcode::{BindOpcode, read_opcode};
+use crate::opcode::{Effect, read_opcode};
 use crate::run::{State, apply, broken};
 use crate::{Bind, StreamKind};
 use dsc_base::{Fault, Site};
 use macho_image::{Image, Location, first_close};
 use std::alloc::Global;
 
-// Whether an opcode ends its stream.
-fn ends(kind: StreamKind, opcode: &BindOpcode<'_>) -> bool
-    ensures { result ≡ ends kind opcode.now }
+// Whether what an opcode does ends its stream.
+fn ends(kind: StreamKind, effect: &Effect<'_>) -> bool
+    ensures { result ≡ effect_ends kind effect.now }
 {
     match kind {
-        StreamKind::Bind => matches!(opcode, BindOpcode::Done),
+        StreamKind::Bind => matches!(effect, Effect::Ends),
         StreamKind::Lazy => false,
     }
 }
 
 fn start<'a>() -> State<'a>
-    ensures { result ≡ spec.start }
+    ensures { settings_of result ≡ spec.start }
 {
     State {
         segment: None,
@@ -51,14 +52,14 @@ fn read_stream<'a>(
     let mut state = start();
     let mut at = 0;
     while at < stream.len() {
-        let (opcode, next) = match read_opcode(stream, at) {
+        let (effect, next) = match read_opcode(stream, at) {
             Ok(read) => read,
             Err(fault) => return Err(broken(kind, fault, at)),
         };
-        if ends(kind, &opcode) {
+        if ends(kind, &effect) {
             return Ok(out);
         }
-        apply(image, kind, &mut state, opcode, at, &mut out)?;
+        apply(image, kind, &mut state, effect, at, &mut out)?;
         at = next;
     }
     Ok(out)

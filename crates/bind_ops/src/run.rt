@@ -6,9 +6,10 @@ ghost use Rattle.macho_image.specs.Runs.{progression, first_fault};
 ghost use Rattle.macho_image.specs.Streams.{site_in};
 ghost use Rattle.bind_ops.specs.Faults.{rule_in};
 ghost use Rattle.bind_ops.specs.Binds as spec;
+ghost use Rattle.bind_ops.specs.Steps.Effects.{settings_of, offsets_of, state_after};
 
 use crate::fault::BindFault;
-use crate::opcode::BindOpcode;
+use crate::opcode::Effect;
 use crate::symbol::Symbol;
 use crate::{Bind, StreamKind};
 use dsc_base::{Fault, Site};
@@ -32,7 +33,7 @@ fn bind_at<'a>(
     offset: u64,
     before: usize,
 ) -> Result<Bind<'a>, BindFault>
-    ensures { result ≡ unless (spec.record_fault image.now state.now offset before) (spec.bound_at image.now state.now offset) }
+    ensures { result ≡ unless (spec.record_fault image.now (settings_of state.now) offset before) (spec.bound_at image.now (settings_of state.now) offset) }
 {
     let Some(ordinal) = state.ordinal else {
         return Err(BindFault::BeforeSet);
@@ -78,8 +79,8 @@ fn record<'a>(
     out: &mut Vec<Bind<'a>>,
 ) -> Result<u64, Fault>
     ensures moved { IfOk result (λ offset. offset ≡ wrap (state.now.offset + count * step)) }
-    ensures added { OnOk result (out.new.items ≡ out.old.items ++ map (spec.bound_at image.now state.now) (progression state.now.offset step count)) }
-    ensures cause { Refuses (option_map (site_in (rule_in kind) at) (first_fault (spec.record_fault image.now state.now) (length out.old.items) (progression state.now.offset step count))) result }
+    ensures added { OnOk result (out.new.items ≡ out.old.items ++ map (spec.bound_at image.now (settings_of state.now)) (progression state.now.offset step count)) }
+    ensures cause { Refuses (option_map (site_in (rule_in kind) at) (first_fault (spec.record_fault image.now (settings_of state.now)) (length out.old.items) (progression state.now.offset step count))) result }
 {
     let mut offset = state.offset;
     for _ in 0..count {
@@ -92,30 +93,30 @@ fn record<'a>(
     Ok(offset)
 }
 
-/// Appends what the opcode at a place records, and sets what it sets.
+/// Appends what the opcode at a place records, by what it does, and sets what it sets.
 pub(crate) fn apply<'a>(
     image: &Image<'_>,
     kind: StreamKind,
     state: &mut State<'a>,
-    opcode: BindOpcode<'a>,
+    effect: Effect<'a>,
     at: usize,
     out: &mut Vec<Bind<'a>>,
 ) -> Result<(), Fault>
-    ensures moved { OnOk result (state.new ≡ spec.moved state.old opcode.entry) }
-    ensures added { OnOk result (out.new.items ≡ out.old.items ++ map (spec.bound_at image.now state.old) (spec.recorded state.old opcode.entry)) }
-    ensures cause { Refuses (option_map (site_in (rule_in kind) at) (first_fault (spec.record_fault image.now state.old) (length out.old.items) (spec.recorded state.old opcode.entry))) result }
+    ensures moved { OnOk result (state.new ≡ state_after state.old effect.entry) }
+    ensures added { OnOk result (out.new.items ≡ out.old.items ++ map (spec.bound_at image.now (settings_of state.old)) (offsets_of state.old effect.entry)) }
+    ensures cause { Refuses (option_map (site_in (rule_in kind) at) (first_fault (spec.record_fault image.now (settings_of state.old)) (length out.old.items) (offsets_of state.old effect.entry))) result }
 {
-    match opcode {
-        BindOpcode::Done | BindOpcode::SetPointerType => {}
-        BindOpcode::SetOrdinal(ordinal) => state.ordinal = Some(ordinal),
-        BindOpcode::SetSymbol(symbol) => state.symbol = Some(symbol),
-        BindOpcode::SetAddend(addend) => state.addend = addend,
-        BindOpcode::SetPlace { segment, offset } => {
+    match effect {
+        Effect::Ends | Effect::SetsPointerType => {}
+        Effect::SetsOrdinal(ordinal) => state.ordinal = Some(ordinal),
+        Effect::SetsSymbol(symbol) => state.symbol = Some(symbol),
+        Effect::SetsAddend(addend) => state.addend = addend,
+        Effect::SetsPlace { segment, offset } => {
             state.segment = Some(segment);
             state.offset = offset;
         }
-        BindOpcode::Advance { distance } => state.offset = state.offset.wrapping_add(distance),
-        BindOpcode::Record { count, step } => {
+        Effect::Advances { distance } => state.offset = state.offset.wrapping_add(distance),
+        Effect::Records { count, step } => {
             state.offset = record(image, kind, state, count, step, at, out)?;
         }
     }

@@ -4,7 +4,7 @@ use Rattle.std.proofs.lemmas.Slice.{put_mid-paste}
 use Rattle.std.proofs.lemmas.List.{append-nil, get_or-take, get_or-drop, get_or-append_right, length-take-le, take_all}
 use Rattle.std.proofs.Math.ListN.{get_or-append}
 use Rattle.std.proofs.lemmas.Nat.{div-add-mod'}
-use Rattle.std.proofs.Math.Nat.{lt_of_mul-lt-mul_right, mul-le-mul_right, add-mul}
+use Rattle.std.proofs.Math.Nat.{lt_of_mul-lt-mul_right, mul-le-mul_right, add-mul, mul-add, mul_assoc}
 use borrow.Rule.Slice.PartMut.{put_mid}
 use Rattle.byteorder.specs.Numbers.{little_number-reads_back, length-bytes_low_first, little_from-lt}
 use Rattle.byteorder.specs.Endian.{little_from, little_bytes}
@@ -107,6 +107,14 @@ put_mid-put w xs i k v written is same =
     put_mid-paste i k xs written (little_bytes w v) w is (sym same) (sym (length-little_bytes w v))
     ∙ (ap (λ (l : List ℕ). (take i xs ++ l) ++ drop (i + w) xs) (take_all w (little_bytes w v) (omega (arith, length-little_bytes w v)))
     ∙ append_assoc (take i xs) (little_bytes w v) (drop (i + w) xs))
+
+-- a factor may be taken modulo 2^64 where the sum is
+pub times_wrapped : (a c x : ℕ) → (a + c * (x % 2 ^ 64)) % 2 ^ 64 ≡ (a + c * x) % 2 ^ 64
+times_wrapped a c x =
+    let whole : x / 2 ^ 64 * 2 ^ 64 + x % 2 ^ 64 ≡ x = div-add-mod' x (2 ^ 64) in
+    let parts : c * x ≡ c * (x / 2 ^ 64 * 2 ^ 64) + c * (x % 2 ^ 64) = ap (λ (n : ℕ). c * n) (sym whole) ∙ mul-add c (x / 2 ^ 64 * 2 ^ 64) (x % 2 ^ 64) in
+    let far : c * (x / 2 ^ 64 * 2 ^ 64) ≡ c * (x / 2 ^ 64) * 2 ^ 64 = sym (mul_assoc c (x / 2 ^ 64) (2 ^ 64)) in
+    omega (arith, parts, far)
 
 -- a multiple of the unit is its own rounding
 pub rounded_exact : (n unit : ℕ) → n % unit ≡ 0 → IsRoundedUp n unit n

@@ -1,9 +1,8 @@
 -- What the reader keeps of an opcode is what the opcode means.
-use Rattle.std.proofs.Common.{◌≡◌, ◌+◌, ◌*◌, ◌/◌, ◌%◌, ◌^◌, ℕ, map, true, false, refl, sym, ap, ◌∙◌, arith}
+use Rattle.std.proofs.Common.{◌≡◌, ◌+◌, ◌*◌, ℕ, map, true, false, refl, sym, ap, ◌∙◌, arith}
 use Rattle.std.specs.Prelude.{Result, Ok, Err}
 use Rattle.std.specs.List.{range_with_len}
-use Rattle.std.proofs.Math.Nat.{mul-add, mul_assoc}
-use Rattle.std.proofs.lemmas.Nat.{div-add-mod'}
+use Rattle.dsc_base.proofs.NumberLaws.{times_wrapped}
 use Rattle.dsc_base.specs.declared.rule.Rule.{Rule}
 use Rattle.macho_image.specs.Places.{wrap}
 use Rattle.macho_image.specs.Runs.{progression}
@@ -15,15 +14,8 @@ use Rattle.rebase_ops.specs.Rebases.{State, recorded, moved}
 use Rattle.rebase_ops.specs.Steps.Effects.{effect, effect_read, state_of, offsets_of, cursor_after}
 
 -- steps may be taken modulo 2^64
-wrap_times : (a c x : ℕ) → wrap (a + c * wrap x) ≡ wrap (a + c * x)
-wrap_times a c x =
-    let whole : x / 2 ^ 64 * 2 ^ 64 + x % 2 ^ 64 ≡ x = div-add-mod' x (2 ^ 64) in
-    let parts : c * x ≡ c * (x / 2 ^ 64 * 2 ^ 64) + c * (x % 2 ^ 64) = ap (λ (n : ℕ). c * n) (sym whole) ∙ mul-add c (x / 2 ^ 64 * 2 ^ 64) (x % 2 ^ 64) in
-    let far : c * (x / 2 ^ 64 * 2 ^ 64) ≡ c * (x / 2 ^ 64) * 2 ^ 64 = sym (mul_assoc c (x / 2 ^ 64) (2 ^ 64)) in
-    omega (arith, parts, far)
-
 steps_wrapped : (a t n : ℕ) → progression a (wrap t) n ≡ progression a t n
-steps_wrapped a t n = ap (λ (f : ℕ → ℕ). map f (range_with_len 0 n)) (λ i k. wrap_times a k t i)
+steps_wrapped a t n = ap (λ (f : ℕ → ℕ). map f (range_with_len 0 n)) (λ i k. times_wrapped a k t i)
 
 offsets_recorded : (c : Cursor) (opcode : Opcode) → offsets_of c (effect opcode) ≡ recorded (state_of c) opcode
 offsets_recorded c Done = refl
@@ -47,7 +39,7 @@ cursor_moved c (DoRebaseUlebTimes count) = refl
 cursor_moved c (DoRebaseAddAddrUleb skip) =
     ap (λ (n : ℕ). let s : State = record { segment = c.segment; offset = n } in s) (let e : wrap (c.offset + 1 * wrap (8 + skip)) ≡ wrap (c.offset + (8 + skip)) = omega arith in e)
 cursor_moved c (DoRebaseUlebTimesSkippingUleb count skip) =
-    ap (λ (n : ℕ). let s : State = record { segment = c.segment; offset = n } in s) (wrap_times c.offset count (8 + skip))
+    ap (λ (n : ℕ). let s : State = record { segment = c.segment; offset = n } in s) (times_wrapped c.offset count (8 + skip))
 
 -- the same of what was kept
 pub offsets_done : (c : Cursor) (opcode : Opcode) (does : Effect) → effect opcode ≡ does → offsets_of c does ≡ recorded (state_of c) opcode
