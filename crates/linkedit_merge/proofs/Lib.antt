@@ -1,0 +1,4 @@
+pub mod ExportLaws
+pub mod PartLaws
+pub mod SizeLaws
+pub mod StreamLaws

@@ -1,0 +1,6 @@
+pub mod Exports
+pub mod Linkedit
+pub mod Parts
+pub mod Pool
+pub mod Shares
+pub mod Sizes
