@@ -1,4 +1,5 @@
 pub mod Exports
+pub mod Indices
 pub mod Linkedit
 pub mod Parts
 pub mod Pool

@@ -4,5 +4,7 @@
 
 mod exports;
 mod parts;
+mod pool;
 mod sizes;
 mod streams;
+mod tables;
