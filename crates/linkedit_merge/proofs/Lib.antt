@@ -4,3 +4,4 @@ pub mod SizeLaws
 pub mod StreamLaws
 pub mod PoolLaws
 pub mod ListLaws
+pub mod ImageLaws

@@ -1,13 +1,19 @@
 -- Sizes of parts that are added up, as far as a cache can span.
-use Rattle.std.specs.Prelude.{◌≡◌, ◌≤◌, ◌<◌, ℕ, List, [], ◌∷◌}
+use Rattle.std.specs.Prelude.{◌≡◌, ◌≤◌, ◌<◌, ℕ, ◌*◌, List, [], ◌∷◌, length, slice_index_or}
+use Rattle.std.specs.List.{flat_map, sum_by}
 use Rattle.dsc_base.specs.Limits.{span_limit}
 use Rattle.dsc_base.specs.declared.fault.Span.{Span}
 use Rattle.dsc_base.specs.declared.fault.SetFault.{SetFault}
 use Rattle.dsc_base.specs.declared.fault.SetFault.TheVariants.{Broken, Memory}
-use Rattle.macho_image.specs.Records.{StreamBytes}
+use Rattle.macho_image.specs.Records.{StreamBytes, Img}
+use Rattle.macho_image.specs.declared.place.Moved.{Moved}
+use Rattle.nlist_table.specs.Symbols.{Tabs}
+use Rattle.cache_layout.specs.Places.{numbered}
+use Rattle.export_trie.specs.Exports.{exports_of}
 use Rattle.export_trie.specs.declared.export.Export.{Export}
 use Rattle.export_trie.specs.Writing.{trie_bytes}
 use Rattle.linkedit_merge.specs.declared.streams.StreamSpots.{StreamSpots}
+use Rattle.linkedit_merge.specs.Exports.{moved_exports}
 use Rattle.linkedit_merge.specs.Linkedit.{too_large}
 
 -- a fault that tells that a size exceeds the limit, where it does
@@ -26,3 +32,21 @@ own_streams streams exports = streams.bind ∷ streams.lazy ∷ trie_bytes expor
 -- where they stand
 abbrev pub spans_of : StreamSpots → List Span
 spans_of s = s.bind ∷ s.lazy ∷ s.exports ∷ s.function_starts ∷ s.data_in_code ∷ []
+
+-- the moved exports of image k
+abbrev pub moved_at : List (List Moved) → ℕ → Img → List Export
+moved_at moves k image = moved_exports image.segments (slice_index_or moves k []) (exports_of image.streams.exports)
+
+-- the streams of image k, and those of all images
+abbrev pub own_at : List (List Export) → ℕ → Img → List (List ℕ)
+own_at exports k image = own_streams image.streams (slice_index_or exports k [])
+
+abbrev pub all_streams : List (List Export) → List Img → List (List ℕ)
+all_streams exports images = flat_map (λ (parts : List (List ℕ)). parts) (numbered (own_at exports) images)
+
+-- the entries of all tables
+abbrev pub symbols_size : List Tabs → ℕ
+symbols_size tables = sum_by (λ (t : Tabs). 16 * length t.symbols) tables
+
+abbrev pub indirect_size : List Tabs → ℕ
+indirect_size tables = sum_by (λ (t : Tabs). 4 * length t.indirect) tables

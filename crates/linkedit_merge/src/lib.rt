@@ -3,6 +3,7 @@
 #![tactic(auto)]
 
 mod exports;
+mod images;
 mod parts;
 mod pool;
 mod sizes;
