@@ -1,13 +1,13 @@
 -- The streams of images in turn.
-use Rattle.std.proofs.Common.{◌≡◌, ◌≤◌, ◌<◌, ℕ, ◌+◌, List, [], ◌∷◌, ◌++◌, Vec, Global, length, map, take, drop, get_or, refl, sym, ap, ap₂, ◌∙◌, arith}
+use Rattle.std.proofs.Common.{◌≡◌, ◌≤◌, ◌<◌, ℕ, ◌+◌, List, [], ◌∷◌, ◌++◌, Vec, Global, length, map, take, drop, get_or, sym, ap, ap₂, ◌∙◌, arith}
 use Rattle.std.specs.List.{flat_map}
-use Rattle.std.proofs.lemmas.List.{append-nil, map-append, drop_more, drop_all, get_or-map, length-append}
+use Rattle.std.proofs.lemmas.List.{append-nil, map-append, drop_more, drop_all, get_or-map}
 use Rattle.std.proofs.lemmas.List.Concat.{flat_map-append}
 use Rattle.dsc_base.specs.declared.fault.Span.{Span}
 use Rattle.macho_image.specs.Records.{Img, StreamBytes}
 use Rattle.export_trie.specs.declared.export.Export.{Export}
 use Rattle.cache_layout.specs.Places.{numbered}
-use Rattle.cache_layout.proofs.NumberedLaws.{numbered-step, numbered-get, length-numbered, map-push}
+use Rattle.cache_layout.proofs.NumberedLaws.{numbered-step, numbered-get, length-numbered}
 use Rattle.linkedit_merge.specs.Parts.{joined_behind, end_behind, lens_of, spans_behind}
 use Rattle.linkedit_merge.specs.declared.streams.StreamSpots.{StreamSpots}
 use Rattle.linkedit_merge.specs.Sizes.{own_streams, own_at, all_streams, spans_of}

@@ -5,3 +5,7 @@ pub mod StreamLaws
 pub mod PoolLaws
 pub mod ListLaws
 pub mod ImageLaws
+pub mod ShareLaws
+pub mod MergeLaws
+pub mod SpotLaws
+pub mod SetLaws

@@ -1,10 +1,11 @@
 -- The five streams of an image put one behind the other.
-use Rattle.std.proofs.Common.{◌≡◌, ℕ, List, [], ◌∷◌, length, refl, ap, ◌∙◌}
+use Rattle.std.proofs.Common.{◌≡◌, ℕ, List, [], ◌∷◌, length, refl, ap, ◌∙◌, ◌++◌, ap₂, sym}
+use Rattle.std.proofs.lemmas.List.{map-append}
 use Rattle.dsc_base.specs.declared.fault.Span.{Span}
-use Rattle.linkedit_merge.specs.Parts.{with_part, joined_behind, end_with, lens_of, span_behind, spans_behind}
+use Rattle.linkedit_merge.specs.Parts.{with_part, joined_behind, joined, end_with, end_behind, lens_of, span_behind, spans_behind}
 use Rattle.linkedit_merge.specs.declared.streams.StreamSpots.{StreamSpots}
 use Rattle.linkedit_merge.specs.Sizes.{spans_of}
-use Rattle.linkedit_merge.proofs.PartLaws.{length-with_part}
+use Rattle.linkedit_merge.proofs.PartLaws.{length-with_part, length-joined, joined-append, spans-append}
 
 -- a part put behind bytes: what comes of them, and the part's range
 pub record IsPut (start : ℕ) (before part after : List ℕ) (at : Span) : Type 0 where
@@ -49,3 +50,39 @@ put_spots start before a b c d e m n o p q s first second third fourth fifth =
     (third.span ∙ ap (λ (k : ℕ). span_behind start k (length c)) two)
     (fourth.span ∙ ap (λ (k : ℕ). span_behind start k (length d)) three)
     (fifth.span ∙ ap (λ (k : ℕ). span_behind start k (length e)) four)
+
+-- the three parts that all images share, behind those of the images
+pub record ArePut (start : ℕ) (own : List (List ℕ)) (a b c before m n after : List ℕ) (spans : List Span) (x y z : Span) : Type 0 where
+  pub own_bytes : before ≡ joined own
+  pub own_spans : spans ≡ spans_behind start 0 (lens_of own)
+  pub first : IsPut start before a m x
+  pub second : IsPut start m b n y
+  pub third : IsPut start n c after z
+
+pub shared_bytes : (start : ℕ) (own : List (List ℕ)) (a b c before m n after : List ℕ) (spans : List Span) (x y z : Span) → ArePut start own a b c before m n after spans x y z
+    → after ≡ joined (own ++ (a ∷ b ∷ c ∷ []))
+unfolding joined_behind
+shared_bytes start own a b c before m n after spans x y z h =
+    h.third.bytes ∙ ap (λ (l : List ℕ). with_part l c)
+    (h.second.bytes ∙ ap (λ (l : List ℕ). with_part l b)
+    (h.first.bytes ∙ ap (λ (l : List ℕ). with_part l a) h.own_bytes))
+    ∙ sym (joined-append [] own (a ∷ b ∷ c ∷ []))
+
+three : (p q r s t u : Span) → p ≡ s → q ≡ t → r ≡ u → ◌≡◌ {A = List Span} (p ∷ q ∷ r ∷ []) (s ∷ t ∷ u ∷ [])
+three p q r s t u a b c = cc
+
+pub shared_spans : (start : ℕ) (own : List (List ℕ)) (a b c before m n after : List ℕ) (spans : List Span) (x y z : Span) → ArePut start own a b c before m n after spans x y z
+    → spans ++ (x ∷ y ∷ z ∷ []) ≡ spans_behind start 0 (lens_of (own ++ (a ∷ b ∷ c ∷ [])))
+unfolding spans_behind
+shared_spans start own a b c before m n after spans x y z h =
+    let end = end_behind 0 (lens_of own) in
+    let zero : length before ≡ end = ap (λ (l : List ℕ). length l) h.own_bytes ∙ length-joined [] own in
+    let one = later start before a m b end zero h.first.bytes in
+    let two = later start m b n c (end_with end (length a)) one h.second.bytes in
+    ap₂ (λ (l r : List Span). l ++ r) h.own_spans
+    (three x y z (span_behind start end (length a)) (span_behind start (end_with end (length a)) (length b)) (span_behind start (end_with (end_with end (length a)) (length b)) (length c))
+    (h.first.span ∙ ap (λ (k : ℕ). span_behind start k (length a)) zero)
+    (h.second.span ∙ ap (λ (k : ℕ). span_behind start k (length b)) one)
+    (h.third.span ∙ ap (λ (k : ℕ). span_behind start k (length c)) two))
+    ∙ (sym (spans-append start 0 (lens_of own) (length a ∷ length b ∷ length c ∷ []))
+    ∙ ap (λ (l : List ℕ). spans_behind start 0 l) (sym (map-append (λ (part : List ℕ). length part) own (a ∷ b ∷ c ∷ []))))

@@ -1,3 +1,4 @@
+pub mod Conditions
 pub mod Exports
 pub mod Indices
 pub mod Linkedit
@@ -5,3 +6,5 @@ pub mod Parts
 pub mod Pool
 pub mod Shares
 pub mod Sizes
+pub mod Spots
+pub mod Written

@@ -1,5 +1,5 @@
 -- Sizes of parts that are added up, as far as a cache can span.
-use Rattle.std.specs.Prelude.{◌≡◌, ◌≤◌, ◌<◌, ℕ, ◌*◌, List, [], ◌∷◌, length, slice_index_or}
+use Rattle.std.specs.Prelude.{◌≡◌, ◌≤◌, ◌<◌, ℕ, ◌*◌, List, [], ◌∷◌, length, slice_index_or, nat_eq, if◌then◌else◌}
 use Rattle.std.specs.List.{flat_map, sum_by}
 use Rattle.dsc_base.specs.Limits.{span_limit}
 use Rattle.dsc_base.specs.declared.fault.Span.{Span}
@@ -13,7 +13,9 @@ use Rattle.export_trie.specs.Exports.{exports_of}
 use Rattle.export_trie.specs.declared.export.Export.{Export}
 use Rattle.export_trie.specs.Writing.{trie_bytes}
 use Rattle.linkedit_merge.specs.declared.streams.StreamSpots.{StreamSpots}
+use Rattle.dsc_base.specs.Region.{padded}
 use Rattle.linkedit_merge.specs.Exports.{moved_exports}
+use Rattle.linkedit_merge.specs.Parts.{eight_up, end_behind, lens_of}
 use Rattle.linkedit_merge.specs.Linkedit.{too_large}
 
 -- a fault that tells that a size exceeds the limit, where it does
@@ -50,3 +52,11 @@ symbols_size tables = sum_by (λ (t : Tabs). 16 * length t.symbols) tables
 
 abbrev pub indirect_size : List Tabs → ℕ
 indirect_size tables = sum_by (λ (t : Tabs). 4 * length t.indirect) tables
+
+-- bytes made ready for a part of a size
+abbrev pub opened : List ℕ → ℕ → List ℕ
+opened before size = if nat_eq size 0 then before else padded (eight_up (length before)) before
+
+-- all of it
+unfoldable pub whole_size : List (List Export) → List Img → List Tabs → ℕ → ℕ
+whole_size exports images tables pool = end_behind (end_behind 0 (lens_of (all_streams exports images))) (symbols_size tables ∷ indirect_size tables ∷ pool ∷ [])

@@ -97,22 +97,13 @@ pub(crate) fn put_all_streams(
 {
     let mut spots = Vec::with_capacity(alloc, images.len())?;
     for (number, image) in images.iter().enumerate() {
-        spots.push(put_streams(
-            alloc,
-            out,
-            start,
-            &image.streams,
-            &exports[number],
-        )?)?;
+        spots.push(put_streams(alloc, out, start, &image.streams, &exports[number])?)?;
     }
     Ok(spots)
 }
 
 /// Appends the entries of all indirect tables.
-pub(crate) fn append_all_indices(
-    out: &mut Vec<u8>,
-    tables: &[Tables<'_>],
-) -> Result<(), NoMemory>
+pub(crate) fn append_all_indices(out: &mut Vec<u8>, tables: &[Tables<'_>]) -> Result<(), NoMemory>
     ensures { OnOk result (out.new.items ≡ out.old.items ++ flat_map (little_bytes 4) (flat_map (λ t. t.indirect) tables.now)) }
 {
     for table in tables {

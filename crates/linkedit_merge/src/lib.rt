@@ -4,8 +4,13 @@
 
 mod exports;
 mod images;
+mod merged;
+mod merging;
 mod parts;
 mod pool;
 mod sizes;
+mod spots;
 mod streams;
 mod tables;
+
+pub use merging::merge;

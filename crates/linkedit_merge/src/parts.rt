@@ -19,7 +19,8 @@ pub(crate) fn eight_up(size: u64) -> u64
 pub(crate) fn span_behind(start: u64, before: u64, len: u64) -> Span
     requires start { start ≤ 2 ^ 32 }
     requires before { before ≤ 2 ^ 63 }
-    ensures { result ≡ spec.span_behind start before len }
+    ensures span { result ≡ spec.span_behind start before len }
+    ensures low { result.at ≤ start + before + 7 }
 {
     if len == 0 {
         return Span { at: 0, len: 0 };

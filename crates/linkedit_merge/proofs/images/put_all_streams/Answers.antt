@@ -1,12 +1,12 @@
 -- The streams of one image more.
-use Rattle.std.proofs.Common.{◌≡◌, ◌∙◌, ◌+◌, ℕ, List, Vec, Global, map, length, refl, sym, ap, arith}
+use Rattle.std.proofs.Common.{◌∙◌, ◌+◌, ℕ, List, Vec, Global, map, length, refl, ap, arith}
 use Rattle.std.specs.List.{flat_map}
 use Rattle.std.proofs.lemmas.List.{length_push}
 use Rattle.macho_image.specs.Records.{Img}
 use Rattle.export_trie.specs.declared.export.Export.{Export}
 use Rattle.linkedit_merge.specs.declared.streams.StreamSpots.{StreamSpots}
 use Rattle.linkedit_merge.specs.Parts.{joined_behind, spans_behind}
-use Rattle.linkedit_merge.specs.Sizes.{own_streams, spans_of}
+use Rattle.linkedit_merge.specs.Sizes.{spans_of}
 use Rattle.linkedit_merge.proofs.ImageLaws.{IsNext, exports_there, bytes_next, spots_next}
 use Rattle.linkedit_merge.proofs.images.put_all_streams.Goals as goal
 
@@ -35,7 +35,7 @@ loop-number-preserved c =
     record {
       bytes = bytes_next exports images n streams own c.args.out.now.items c.loop-number.out.items c.put_streams.new.out.items h c.loop-number.invariant.bytes c.in_ok-put_streams.ensures.bytes;
       spots =
-        spots_next exports images n streams own c.args.start c.args.out.now.items c.loop-number.out.items c.loop-number.spots.items c.push.new.self.items c.in_ok-put_streams.field-0
-        h c.loop-number.invariant.bytes c.loop-number.invariant.spots c.in_ok-put_streams.ensures.spots c.in_ok-push.ensures.items;
+          spots_next exports images n streams own c.args.start c.args.out.now.items c.loop-number.out.items c.loop-number.spots.items c.push.new.self.items c.in_ok-put_streams.field-0
+          h c.loop-number.invariant.bytes c.loop-number.invariant.spots c.in_ok-put_streams.ensures.spots c.in_ok-push.ensures.items;
       many = ap (λ (l : List StreamSpots). length l) c.in_ok-push.ensures.items ∙ (length_push c.loop-number.spots.items c.in_ok-put_streams.field-0 ∙ ap (λ (k : ℕ). k + 1) c.loop-number.invariant.many);
     }

@@ -30,8 +30,8 @@ loop-number-preserved c =
     } in
     record {
       end =
-        ap (λ (k : ℕ). end_behind k (lens_of (flat_map (λ (parts : List (List ℕ)). parts) (drop (n + 1) (numbered (own_at exports) images))))) c.in_ok-end.ensures.size.0
-        ∙ (sym (end_next exports images n streams own c.loop-number.end h) ∙ c.loop-number.invariant.end);
+          ap (λ (k : ℕ). end_behind k (lens_of (flat_map (λ (parts : List (List ℕ)). parts) (drop (n + 1) (numbered (own_at exports) images))))) c.in_ok-end.ensures.size.0
+          ∙ (sym (end_next exports images n streams own c.loop-number.end h) ∙ c.loop-number.invariant.end);
       low = omega (arith, c.in_ok-end.ensures.size.0, c.in_ok-end.ensures.size.1);
     }
 
@@ -58,5 +58,5 @@ pub returns-clause-size : goal.returns-clause-size
 returns-clause-size c =
     let exports = map (λ (e : Vec Export Global). e.items) c.args.exports.now in
     let whole : c.loop-number.end ≡ end_behind 0 (lens_of (all_streams exports c.args.images.now)) =
-      sym (end_last exports c.args.images.now c.loop-number.number c.loop-number.end c.loop-number-test.false) ∙ c.loop-number.invariant.end in
+    sym (end_last exports c.args.images.now c.loop-number.number c.loop-number.end c.loop-number-test.false) ∙ c.loop-number.invariant.end in
     (whole, omega (arith, whole, c.loop-number.invariant.low))
