@@ -20,10 +20,9 @@ use Rattle.macho_image.specs.Streams.{opcodes_of, records, reading_break}
 use Rattle.macho_image.proofs.CloseLaws.{close_sorted, close_apart}
 use Rattle.macho_image.proofs.StreamLaws.{Accepts, HasRead, accepted_records}
 use Rattle.macho_image.proofs.WordLaws.{accepted_one}
-use Rattle.bind_ops.specs.declared.fault.BindFault.TheVariants.{Place, BeforeSet, Twice}
 use Rattle.bind_ops.specs.declared.kind.StreamKind.{StreamKind}
 use Rattle.bind_ops.specs.Binds.{start, bound_at, is_set, record_fault, meaning, binds_of, places_of, bind_break, AreBinds}
-use Rattle.bind_ops.specs.Faults.{rule_in}
+use Rattle.bind_ops.specs.Faults.{Place, BeforeSet, Twice, rule_in}
 use Rattle.bind_ops.specs.Opcodes.{spelling}
 use Rattle.bind_ops.specs.Records.{BoundWord}
 

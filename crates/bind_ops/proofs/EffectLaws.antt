@@ -5,11 +5,11 @@ use Rattle.std.specs.List.{range_with_len}
 use Rattle.dsc_base.proofs.NumberLaws.{times_wrapped}
 use Rattle.macho_image.specs.Places.{wrap}
 use Rattle.macho_image.specs.Runs.{progression}
-use Rattle.bind_ops.specs.declared.fault.BindFault.{BindFault}
 use Rattle.bind_ops.specs.declared.kind.StreamKind.{StreamKind}
 use Rattle.bind_ops.specs.declared.kind.StreamKind.TheVariants.{Bind, Lazy}
 use Rattle.bind_ops.specs.declared.opcode.Effect.{Effect}
 use Rattle.bind_ops.specs.declared.run.State.{State}
+use Rattle.bind_ops.specs.Faults.{Reason}
 use Rattle.bind_ops.specs.Opcodes.{Opcode, Done, SetDylibOrdinalImm, SetDylibOrdinalUleb, SetDylibSpecialImm, SetSymbolTrailingFlagsImm, SetTypeImm, SetAddendSleb, SetSegmentAndOffsetUleb, AddAddrUleb, DoBind, DoBindAddAddrUleb, DoBindAddAddrImmScaled, DoBindUlebTimesSkippingUleb, ends}
 use Rattle.bind_ops.specs.Binds.{Settings, recorded, moved}
 use Rattle.bind_ops.specs.Steps.Effects.{effect, effect_read, effect_ends, settings_of, offsets_of, state_after}
@@ -90,21 +90,21 @@ pub ends_done : (kind : StreamKind) (opcode : Opcode) (does : Effect) → effect
 ends_done kind opcode does is = sym (ends_read kind opcode) ∙ ap (effect_ends kind) is
 
 -- the opcode that was read
-pub record HasOpcode (r : Result (Opcode × ℕ) BindFault) (does : Effect) (next : ℕ) : Type 0 where
+pub record HasOpcode (r : Result (Opcode × ℕ) Reason) (does : Effect) (next : ℕ) : Type 0 where
   pub opcode : Opcode
   pub read : Ok (opcode, next) ≡ r
   pub is : effect opcode ≡ does
 
-pub opcode_read : (r : Result (Opcode × ℕ) BindFault) (does : Effect) (next : ℕ) → Ok (does, next) ≡ effect_read r → HasOpcode r does next
-opcode_read (Err fault) does next is = absurd (cc)
+pub opcode_read : (r : Result (Opcode × ℕ) Reason) (does : Effect) (next : ℕ) → Ok (does, next) ≡ effect_read r → HasOpcode r does next
+opcode_read (Err reason) does next is = absurd (cc)
 opcode_read (Ok p) does next is =
     let same : ◌≡◌ {A = Effect × ℕ} (does, next) (effect p.0, p.1) = cc in
     record {
       opcode = p.0;
-      read = ap (λ (n : ℕ). let q : Result (Opcode × ℕ) BindFault = Ok (p.0, n) in q) (ap (λ (q : Effect × ℕ). q.1) same);
+      read = ap (λ (n : ℕ). let q : Result (Opcode × ℕ) Reason = Ok (p.0, n) in q) (ap (λ (q : Effect × ℕ). q.1) same);
       is = sym (ap (λ (q : Effect × ℕ). q.0) same);
     }
 
-pub refused_read : (r : Result (Opcode × ℕ) BindFault) (fault : BindFault) → Err fault ≡ effect_read r → Err fault ≡ r
-refused_read (Err other) fault is = cc
-refused_read (Ok p) fault is = absurd (cc)
+pub refused_read : (r : Result (Opcode × ℕ) Reason) (reason : Reason) → Err reason ≡ effect_read r → Err reason ≡ r
+refused_read (Err other) reason is = cc
+refused_read (Ok p) reason is = absurd (cc)

@@ -11,10 +11,8 @@ use Rattle.macho_image.specs.Places.{wrap, place_fault, location, IsWord}
 use Rattle.dsc_base.specs.Limits.{record_limit}
 use Rattle.macho_image.specs.Runs.{progression}
 use Rattle.macho_image.specs.Streams.{opcodes_of, Meaning, records, reading_break}
-use Rattle.bind_ops.specs.declared.fault.BindFault.{BindFault}
-use Rattle.bind_ops.specs.declared.fault.BindFault.TheVariants.{Place, BeforeSet, Twice}
 use Rattle.bind_ops.specs.declared.kind.StreamKind.{StreamKind}
-use Rattle.bind_ops.specs.Faults.{rule_in}
+use Rattle.bind_ops.specs.Faults.{Reason, Place, BeforeSet, Twice, rule_in}
 use Rattle.bind_ops.specs.Opcodes.{Opcode, SetDylibOrdinalImm, SetDylibOrdinalUleb, SetDylibSpecialImm, SetSymbolTrailingFlagsImm, SetAddendSleb, SetSegmentAndOffsetUleb, AddAddrUleb, DoBind, DoBindAddAddrUleb, DoBindAddAddrImmScaled, DoBindUlebTimesSkippingUleb, spelling}
 use Rattle.bind_ops.specs.Records.{SymbolName, BoundWord}
 
@@ -70,11 +68,11 @@ abbrev pub is_set : Settings → Bool
 is_set s = is_some s.ordinal && (is_some s.symbol && is_some s.segment)
 
 -- what is wrong with a record at an offset, after so many of its stream: rule 51 goes before those on its place
-unfoldable pub record_fault : Img → Settings → ℕ → ℕ → Option BindFault
+unfoldable pub record_fault : Img → Settings → ℕ → ℕ → Option Reason
 record_fault image s offset before = if is_set s then option_map Place (place_fault image s.segment offset before) else Some BeforeSet
 
 -- bind opcodes record binds of an image
-abbrev pub meaning : StreamKind → Img → Meaning Settings Opcode BoundWord BindFault
+abbrev pub meaning : StreamKind → Img → Meaning Settings Opcode BoundWord Reason
 meaning stream image = record { moved = moved; recorded = recorded; made = bound_at image; refused = record_fault image; rule = rule_in stream }
 
 -- the binds that a stream spells for an image, in reading order

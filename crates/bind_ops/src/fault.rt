@@ -1,6 +1,7 @@
 // Why a bind stream is refused, and the rule of each stream for it.
 ghost use Rattle.std.specs.Prelude.{◌≡◌};
 ghost use Rattle.bind_ops.specs.Faults as spec;
+ghost use Rattle.bind_ops.specs.Steps.Effects.{reason_of};
 
 use crate::StreamKind;
 use dsc_base::Rule;
@@ -32,7 +33,7 @@ pub(crate) enum BindFault {
 }
 
 fn bind_rule(fault: BindFault) -> Rule
-    ensures { result ≡ spec.bind_rule fault }
+    ensures { result ≡ spec.bind_rule (reason_of fault) }
 {
     match fault {
         BindFault::BadUleb => Rule::BindBadUleb,
@@ -55,7 +56,7 @@ fn bind_rule(fault: BindFault) -> Rule
 }
 
 fn lazy_rule(fault: BindFault) -> Rule
-    ensures { result ≡ spec.lazy_rule fault }
+    ensures { result ≡ spec.lazy_rule (reason_of fault) }
 {
     match fault {
         BindFault::BadUleb => Rule::LazyBadUleb,
@@ -80,7 +81,7 @@ fn lazy_rule(fault: BindFault) -> Rule
 impl BindFault {
     /// The rule of a stream that is broken.
     pub(crate) fn rule_in(self, kind: StreamKind) -> Rule
-        ensures { result ≡ spec.rule_in kind self }
+        ensures { result ≡ spec.rule_in kind (reason_of self) }
     {
         match kind {
             StreamKind::Bind => bind_rule(self),

@@ -1,7 +1,7 @@
 // Bind opcodes, read one at a time.
 ghost use Rattle.std.specs.Prelude.{◌≡◌, ◌<◌, ◌≤◌, ◌+◌, length, IfOk};
 ghost use Rattle.bind_ops.specs.Opcodes as spec;
-ghost use Rattle.bind_ops.specs.Steps.Effects.{effect_read};
+ghost use Rattle.bind_ops.specs.Steps.Effects.{because, effect_read};
 ghost use Rattle.macho_image.specs.Places.{wrap};
 
 use crate::fault::BindFault;
@@ -76,7 +76,7 @@ pub(crate) enum Effect<'a> {
 #[tactic(auto, unfolding(crate::specs::Opcodes::operand_at))]
 fn operand(stream: &[u8], at: usize) -> Result<(u64, usize), BindFault>
     requires { at ≤ length stream.now }
-    ensures value { result ≡ spec.operand_at stream.now at }
+    ensures value { because result ≡ spec.operand_at stream.now at }
     ensures within { IfOk result (λ p. (at ≤ p.1) × (p.1 ≤ length stream.now)) }
 {
     match read_uleb(stream, at) {
@@ -89,7 +89,7 @@ fn operand(stream: &[u8], at: usize) -> Result<(u64, usize), BindFault>
 #[tactic(auto, unfolding(crate::specs::Opcodes::signed_operand_at))]
 fn signed_operand(stream: &[u8], at: usize) -> Result<(i64, usize), BindFault>
     requires { at ≤ length stream.now }
-    ensures value { result ≡ spec.signed_operand_at stream.now at }
+    ensures value { because result ≡ spec.signed_operand_at stream.now at }
     ensures within { IfOk result (λ p. (at ≤ p.1) × (p.1 ≤ length stream.now)) }
 {
     match read_sleb(stream, at) {
@@ -100,7 +100,7 @@ fn signed_operand(stream: &[u8], at: usize) -> Result<(i64, usize), BindFault>
 
 // The ordinal of a special number: only the image itself is accepted.
 fn special_ordinal(immediate: u8) -> Result<u64, BindFault>
-    ensures { result ≡ spec.special_ordinal immediate }
+    ensures { because result ≡ spec.special_ordinal immediate }
 {
     match immediate {
         SELF => Ok(0),
@@ -130,7 +130,7 @@ fn target_with<'a>(
     at: usize,
 ) -> Result<(Effect<'a>, usize), BindFault>
     requires { at ≤ length stream.now }
-    ensures value { result ≡ effect_read (spec.target_with number immediate stream.entry.now at) }
+    ensures value { because result ≡ effect_read (spec.target_with number immediate stream.entry.now at) }
     ensures within { IfOk result (λ p. (at ≤ p.1) × (p.1 ≤ length stream.entry.now)) }
 {
     match number {
@@ -168,7 +168,7 @@ fn place_with<'a>(
     at: usize,
 ) -> Result<(Effect<'a>, usize), BindFault>
     requires { at ≤ length stream.now }
-    ensures value { result ≡ effect_read (spec.place_with number immediate stream.entry.now at) }
+    ensures value { because result ≡ effect_read (spec.place_with number immediate stream.entry.now at) }
     ensures within { IfOk result (λ p. (at ≤ p.1) × (p.1 ≤ length stream.entry.now)) }
 {
     match number {
@@ -206,7 +206,7 @@ fn opcode_with<'a>(
     at: usize,
 ) -> Result<(Effect<'a>, usize), BindFault>
     requires { at ≤ length stream.now }
-    ensures value { result ≡ effect_read (spec.opcode_with number immediate stream.entry.now at) }
+    ensures value { because result ≡ effect_read (spec.opcode_with number immediate stream.entry.now at) }
     ensures within { IfOk result (λ p. (at ≤ p.1) × (p.1 ≤ length stream.entry.now)) }
 {
     if number == DONE {
@@ -222,7 +222,7 @@ fn opcode_with<'a>(
 #[tactic(auto, unfolding(crate::specs::Opcodes::opcode_at))]
 pub(crate) fn read_opcode<'a>(stream: &'a [u8], at: usize) -> Result<(Effect<'a>, usize), BindFault>
     requires { at < length stream.now }
-    ensures value { result ≡ effect_read (spec.opcode_at stream.entry.now at) }
+    ensures value { because result ≡ effect_read (spec.opcode_at stream.entry.now at) }
     ensures within { IfOk result (λ p. (at < p.1) × (p.1 ≤ length stream.entry.now)) }
 {
     let byte = stream[at];

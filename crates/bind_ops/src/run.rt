@@ -6,7 +6,7 @@ ghost use Rattle.macho_image.specs.Runs.{progression, first_fault};
 ghost use Rattle.macho_image.specs.Streams.{site_in};
 ghost use Rattle.bind_ops.specs.Faults.{rule_in};
 ghost use Rattle.bind_ops.specs.Binds as spec;
-ghost use Rattle.bind_ops.specs.Steps.Effects.{settings_of, offsets_of, state_after};
+ghost use Rattle.bind_ops.specs.Steps.Effects.{reason_of, because, settings_of, offsets_of, state_after};
 
 use crate::fault::BindFault;
 use crate::opcode::Effect;
@@ -33,7 +33,7 @@ fn bind_at<'a>(
     offset: u64,
     before: usize,
 ) -> Result<Bind<'a>, BindFault>
-    ensures { result ≡ unless (spec.record_fault image.now (settings_of state.now) offset before) (spec.bound_at image.now (settings_of state.now) offset) }
+    ensures { because result ≡ unless (spec.record_fault image.now (settings_of state.now) offset before) (spec.bound_at image.now (settings_of state.now) offset) }
 {
     let Some(ordinal) = state.ordinal else {
         return Err(BindFault::BeforeSet);
@@ -58,7 +58,7 @@ fn bind_at<'a>(
 
 /// A fault of the opcode at a place.
 pub(crate) fn broken(kind: StreamKind, fault: BindFault, at: usize) -> Fault
-    ensures { result ≡ Fault.Broken (site_in (rule_in kind) at fault) }
+    ensures { result ≡ Fault.Broken (site_in (rule_in kind) at (reason_of fault)) }
 {
     Fault::Broken(Site {
         rule: fault.rule_in(kind),

@@ -1,6 +1,7 @@
 // The name of a symbol in a stream.
 ghost use Rattle.std.specs.Prelude.{◌≡◌, ◌≤◌, ◌<◌, ◌+◌, nat_eq, length, position, IfOk};
 ghost use Rattle.bind_ops.specs.Opcodes.{symbol_at};
+ghost use Rattle.bind_ops.specs.Steps.Effects.{because};
 
 use crate::fault::BindFault;
 use dsc_base::NAME_LIMIT;
@@ -35,7 +36,7 @@ pub(crate) fn read_symbol<'a>(
     weak: bool,
 ) -> Result<(Symbol<'a>, usize), BindFault>
     requires { at ≤ length stream.now }
-    ensures value { result ≡ symbol_at weak stream.entry.now at }
+    ensures value { because result ≡ symbol_at weak stream.entry.now at }
     ensures within { IfOk result (λ p. (at < p.1) × (p.1 ≤ length stream.entry.now)) }
 {
     let rest = &stream[at..];

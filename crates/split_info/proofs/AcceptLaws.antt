@@ -22,7 +22,8 @@ use Rattle.split_info.specs.declared.reference.Reference.{Reference}
 use Rattle.split_info.specs.declared.extent.Extent.{Extent}
 use Rattle.split_info.specs.declared.extent.Target.{Target}
 use Rattle.split_info.specs.References.{kind_of, width_of, section_numbered, from_section, segment_section, header_section, to_section, target_in, reference_in}
-use Rattle.split_info.specs.Stream.{Spelled, End, Refused, Next, read, number, known, offsets, groups, targets, pairs, spelled}
+use Rattle.split_info.specs.Stream.{times, Spelled, End, Refused, Next, read, number, known, spelled}
+use Rattle.split_info.specs.Reading.{offsets, groups, targets, pairs}
 use Rattle.split_info.specs.Split.{is_unsplit, spelled_of, references, references_of, is_rebased, reference_fault, site_at, reading_break, IsReference, AreReferences}
 use Rattle.dsc_base.specs.Limits.{record_limit}
 use Rattle.split_info.specs.Overlap.{is_pointer, meets, strays, overlaps, overlap_at, lowest}
@@ -169,7 +170,7 @@ all_known P rule at (Some x) more all = all x refl
 
 all_offsets : (image : Img) (bytes : List ℕ) (kind : RefKind) (from : Extent) (t : Target) (n sum at : ℕ) (rest : ℕ → Spelled) → IsSound image → IsKnown image from → IsTarget image t
     → ((k : ℕ) → All (IsPlaced image) (references (rest k))) → All (IsPlaced image) (references (offsets bytes kind from t n sum at rest))
-unfolding offsets
+unfolding times
 all_offsets image bytes kind from t zero sum at rest sound one two all = all at
 all_offsets image bytes kind from t (suc n) sum at rest sound one two all =
     all_read (IsPlaced image) at (uleb_at bytes at) (λ delta next. known SplitOutsideSection at (reference_in kind from t (sum + delta)) (λ r. Next at r (offsets bytes kind from t n (sum + delta) next rest)))
@@ -179,7 +180,7 @@ all_offsets image bytes kind from t (suc n) sum at rest sound one two all =
 
 all_groups : (image : Img) (bytes : List ℕ) (from : Extent) (t : Target) (n at : ℕ) (rest : ℕ → Spelled) → IsSound image → IsKnown image from → IsTarget image t
     → ((k : ℕ) → All (IsPlaced image) (references (rest k))) → All (IsPlaced image) (references (groups bytes from t n at rest))
-unfolding groups
+unfolding times
 all_groups image bytes from t zero at rest sound one two all = all at
 all_groups image bytes from t (suc n) at rest sound one two all =
     all_read (IsPlaced image) at (uleb_at bytes at) (λ code counted. known SplitBadKind at (kind_of code) (λ kind. number bytes counted (λ count first. offsets bytes kind from t count 0 first (λ next. groups bytes from t n next rest))))
@@ -189,7 +190,7 @@ all_groups image bytes from t (suc n) at rest sound one two all =
 
 all_targets : (image : Img) (bytes : List ℕ) (from to : Extent) (m n sum at : ℕ) (rest : ℕ → Spelled) → IsSound image → IsKnown image from → to_section image m ≡ Some to
     → ((k : ℕ) → All (IsPlaced image) (references (rest k))) → All (IsPlaced image) (references (targets bytes from to n sum at rest))
-unfolding targets
+unfolding times
 all_targets image bytes from to m zero sum at rest sound one two all = all at
 all_targets image bytes from to m (suc n) sum at rest sound one two all =
     all_read (IsPlaced image) at (uleb_at bytes at) (λ delta counted. known SplitOutsideSection at (target_in to (sum + delta)) (λ t. number bytes counted (λ count first. groups bytes from t count first (λ next. targets bytes from to n (sum + delta) next rest))))
@@ -199,7 +200,7 @@ all_targets image bytes from to m (suc n) sum at rest sound one two all =
     (λ next. all_targets image bytes from to m n (sum + delta) next rest sound one two all))))
 
 all_pairs : (image : Img) (bytes : List ℕ) (n at : ℕ) (rest : ℕ → Spelled) → IsSound image → ((k : ℕ) → All (IsPlaced image) (references (rest k))) → All (IsPlaced image) (references (pairs bytes image n at rest))
-unfolding pairs
+unfolding times
 all_pairs image bytes zero at rest sound all = all at
 all_pairs image bytes (suc n) at rest sound all =
     all_read (IsPlaced image) at (uleb_at bytes at)

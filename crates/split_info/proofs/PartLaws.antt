@@ -15,9 +15,9 @@ use Rattle.split_info.specs.declared.reference.Reference.{Reference}
 use Rattle.split_info.specs.declared.extent.Extent.{Extent}
 use Rattle.split_info.specs.declared.extent.Target.{Target}
 use Rattle.split_info.specs.References.{kind_of, from_section, to_section, target_in, reference_in}
-use Rattle.split_info.specs.Stream.{Spelled, Refused, Next, number, known, offsets, groups, targets, pairs}
+use Rattle.split_info.specs.Stream.{times, Spelled, Refused, Next, number, known}
 use Rattle.split_info.specs.Split.{references, reading_break, reference_fault, site_at}
-use Rattle.split_info.specs.Reading.{IsRead, RefusesPart}
+use Rattle.split_info.specs.Reading.{offsets, groups, targets, pairs, IsRead, RefusesPart}
 
 -- ---- Parts
 
@@ -75,20 +75,20 @@ pub offsets_next : (bytes : List ℕ) (kind : RefKind) (from : Extent) (target :
     → left ≡ suc left' → ((more : ℕ → ℕ → Spelled) → number bytes at more ≡ more delta next)
     → offsets bytes kind from target left sum at rest
     ≡ known SplitOutsideSection at (reference_in kind from target (sum + delta)) (λ reference. Next at reference (offsets bytes kind from target left' (sum + delta) next rest))
-unfolding offsets
+unfolding times
 offsets_next bytes kind from target left left' sum at delta next rest one read =
     ap (λ (n : ℕ). offsets bytes kind from target n sum at rest) one
     ∙ read (λ delta next. known SplitOutsideSection at (reference_in kind from target (sum + delta)) (λ reference. Next at reference (offsets bytes kind from target left' (sum + delta) next rest)))
 
 pub offsets_cut : (bytes : List ℕ) (kind : RefKind) (from : Extent) (target : Target) (left sum at : ℕ) (rest : ℕ → Spelled) (site : Site)
     → 0 < left → ((more : ℕ → ℕ → Spelled) → number bytes at more ≡ Refused site) → offsets bytes kind from target left sum at rest ≡ Refused site
-unfolding offsets
+unfolding times
 offsets_cut bytes kind from target zero sum at rest site some cut = absurd (omega arith)
 offsets_cut bytes kind from target (suc left) sum at rest site some cut =
     cut (λ delta next. known SplitOutsideSection at (reference_in kind from target (sum + delta)) (λ reference. Next at reference (offsets bytes kind from target left (sum + delta) next rest)))
 
 pub offsets_end : (bytes : List ℕ) (kind : RefKind) (from : Extent) (target : Target) (left sum at : ℕ) (rest : ℕ → Spelled) → left ≡ 0 → offsets bytes kind from target left sum at rest ≡ rest at
-unfolding offsets
+unfolding times
 offsets_end bytes kind from target left sum at rest none = ap (λ (n : ℕ). offsets bytes kind from target n sum at rest) none
 
 pub one_read : (rebases : List Location) (old new : List Reference) (at before : ℕ) (r : Reference) (more : Spelled) → before ≡ length old → None ≡ reference_fault rebases before r → new ≡ old ++ r ∷ [] → IsRead rebases old new (Next at r more) more
@@ -138,19 +138,19 @@ offset_refused rebases bytes kind from target old left left' sum at delta next b
 groups_next : (bytes : List ℕ) (from : Extent) (target : Target) (left left' at code counted : ℕ) (rest : ℕ → Spelled) → left ≡ suc left' → ((more : ℕ → ℕ → Spelled) → number bytes at more ≡ more code counted)
     → groups bytes from target left at rest
     ≡ known SplitBadKind at (kind_of code) (λ kind. number bytes counted (λ count first. offsets bytes kind from target count 0 first (λ next. groups bytes from target left' next rest)))
-unfolding groups
+unfolding times
 groups_next bytes from target left left' at code counted rest one read =
     ap (λ (n : ℕ). groups bytes from target n at rest) one
     ∙ read (λ code counted. known SplitBadKind at (kind_of code) (λ kind. number bytes counted (λ count first. offsets bytes kind from target count 0 first (λ next. groups bytes from target left' next rest))))
 
 pub groups_cut : (bytes : List ℕ) (from : Extent) (target : Target) (left at : ℕ) (rest : ℕ → Spelled) (site : Site) → 0 < left → ((more : ℕ → ℕ → Spelled) → number bytes at more ≡ Refused site) → groups bytes from target left at rest ≡ Refused site
-unfolding groups
+unfolding times
 groups_cut bytes from target zero at rest site some cut = absurd (omega arith)
 groups_cut bytes from target (suc left) at rest site some cut =
     cut (λ code counted. known SplitBadKind at (kind_of code) (λ kind. number bytes counted (λ count first. offsets bytes kind from target count 0 first (λ next. groups bytes from target left next rest))))
 
 pub groups_end : (bytes : List ℕ) (from : Extent) (target : Target) (left at : ℕ) (rest : ℕ → Spelled) → left ≡ 0 → groups bytes from target left at rest ≡ rest at
-unfolding groups
+unfolding times
 groups_end bytes from target left at rest none = ap (λ (n : ℕ). groups bytes from target n at rest) none
 
 pub groups_unknown : (bytes : List ℕ) (from : Extent) (target : Target) (left left' at code counted : ℕ) (rest : ℕ → Spelled) → left ≡ suc left' → ((more : ℕ → ℕ → Spelled) → number bytes at more ≡ more code counted) → kind_of code ≡ None
@@ -170,19 +170,19 @@ groups_known bytes from target left left' at code counted kind rest one read is 
 targets_next : (bytes : List ℕ) (from to : Extent) (left left' sum at delta counted : ℕ) (rest : ℕ → Spelled) → left ≡ suc left' → ((more : ℕ → ℕ → Spelled) → number bytes at more ≡ more delta counted)
     → targets bytes from to left sum at rest
     ≡ known SplitOutsideSection at (target_in to (sum + delta)) (λ target. number bytes counted (λ count first. groups bytes from target count first (λ next. targets bytes from to left' (sum + delta) next rest)))
-unfolding targets
+unfolding times
 targets_next bytes from to left left' sum at delta counted rest one read =
     ap (λ (n : ℕ). targets bytes from to n sum at rest) one
     ∙ read (λ delta counted. known SplitOutsideSection at (target_in to (sum + delta)) (λ target. number bytes counted (λ count first. groups bytes from target count first (λ next. targets bytes from to left' (sum + delta) next rest))))
 
 pub targets_cut : (bytes : List ℕ) (from to : Extent) (left sum at : ℕ) (rest : ℕ → Spelled) (site : Site) → 0 < left → ((more : ℕ → ℕ → Spelled) → number bytes at more ≡ Refused site) → targets bytes from to left sum at rest ≡ Refused site
-unfolding targets
+unfolding times
 targets_cut bytes from to zero sum at rest site some cut = absurd (omega arith)
 targets_cut bytes from to (suc left) sum at rest site some cut =
     cut (λ delta counted. known SplitOutsideSection at (target_in to (sum + delta)) (λ target. number bytes counted (λ count first. groups bytes from target count first (λ next. targets bytes from to left (sum + delta) next rest))))
 
 pub targets_end : (bytes : List ℕ) (from to : Extent) (left sum at : ℕ) (rest : ℕ → Spelled) → left ≡ 0 → targets bytes from to left sum at rest ≡ rest at
-unfolding targets
+unfolding times
 targets_end bytes from to left sum at rest none = ap (λ (n : ℕ). targets bytes from to n sum at rest) none
 
 pub targets_outside : (bytes : List ℕ) (from to : Extent) (left left' sum at delta counted : ℕ) (rest : ℕ → Spelled) → left ≡ suc left' → ((more : ℕ → ℕ → Spelled) → number bytes at more ≡ more delta counted) → target_in to (sum + delta) ≡ None
@@ -209,17 +209,17 @@ pair_from bytes image left at second rest o = known SplitBadSection at o (λ fro
 
 pairs_next : (bytes : List ℕ) (image : Img) (left left' at one second : ℕ) (rest : ℕ → Spelled) → left ≡ suc left' → ((more : ℕ → ℕ → Spelled) → number bytes at more ≡ more one second)
     → pairs bytes image left at rest ≡ pair_from bytes image left' at second rest (from_section image one)
-unfolding pairs
+unfolding times
 pairs_next bytes image left left' at one second rest is read =
     ap (λ (n : ℕ). pairs bytes image n at rest) is ∙ read (λ one second. pair_from bytes image left' at second rest (from_section image one))
 
 pub pairs_cut : (bytes : List ℕ) (image : Img) (left at : ℕ) (rest : ℕ → Spelled) (site : Site) → 0 < left → ((more : ℕ → ℕ → Spelled) → number bytes at more ≡ Refused site) → pairs bytes image left at rest ≡ Refused site
-unfolding pairs
+unfolding times
 pairs_cut bytes image zero at rest site some cut = absurd (omega arith)
 pairs_cut bytes image (suc left) at rest site some cut = cut (λ one second. pair_from bytes image left at second rest (from_section image one))
 
 pub pairs_end : (bytes : List ℕ) (image : Img) (left at : ℕ) (rest : ℕ → Spelled) → left ≡ 0 → pairs bytes image left at rest ≡ rest at
-unfolding pairs
+unfolding times
 pairs_end bytes image left at rest none = ap (λ (n : ℕ). pairs bytes image n at rest) none
 
 pub pairs_nowhere : (bytes : List ℕ) (image : Img) (left left' at one second : ℕ) (rest : ℕ → Spelled) → left ≡ suc left' → ((more : ℕ → ℕ → Spelled) → number bytes at more ≡ more one second) → from_section image one ≡ None

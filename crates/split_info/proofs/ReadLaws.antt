@@ -10,10 +10,10 @@ use Rattle.macho_image.specs.Records.{Img}
 use Rattle.dsc_base.specs.Refusals.{broken, IsRefusal, Refuses}
 use Rattle.macho_image.specs.declared.place.Location.{Location}
 use Rattle.split_info.specs.declared.reference.Reference.{Reference}
-use Rattle.split_info.specs.Stream.{Spelled, End, Refused, number, pairs, spelled}
+use Rattle.split_info.specs.Stream.{Spelled, End, Refused, number, spelled}
 use Rattle.split_info.specs.Split.{is_unsplit, spelled_of, references, references_of, reading_break, split_break}
 use Rattle.split_info.specs.Overlap.{overlap_at}
-use Rattle.split_info.specs.Reading.{IsRead}
+use Rattle.split_info.specs.Reading.{pairs, IsRead}
 
 -- a fault that is handed on
 pub refuses_on : {X : Type 0} (found : Option Site) (r : Result X Fault) (fault : Fault) → IsErrAnd r (λ other. other ≡ fault) → IsRefusal found fault → Refuses found r

@@ -1,5 +1,5 @@
 -- References and the sections that they name, after DYLD_CACHE_ADJ_V2 of Apple's published linker and cache builder.
-use Rattle.std.specs.Prelude.{ℕ, ◌+◌, ◌-◌, nat_eq, nat_le, if◌then◌else◌, List, Option, Some, None, option_map, slice_get}
+use Rattle.std.specs.Prelude.{ℕ, ◌+◌, nat_eq, nat_le, if◌then◌else◌, List, Option, Some, None, option_map, slice_get}
 use Rattle.std.specs.List.{position}
 use Rattle.std.specs.Option.{option_and_then}
 use Rattle.macho_image.specs.Records.{Img, Seg}

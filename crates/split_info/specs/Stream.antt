@@ -31,45 +31,53 @@ abbrev pub known : {X : Type 0} → Rule → ℕ → Option X → (X → Spelled
 known rule at None more = Refused (record { rule = rule; at = at })
 known rule at (Some x) more = more x
 
--- FromOffset: from-offset-delta. The offsets add up from 0 within one Group.
-unfoldable pub offsets : List ℕ → RefKind → Extent → Target → ℕ → ℕ → ℕ → (ℕ → Spelled) → Spelled
-offsets bytes kind from target zero sum at rest = rest at
-offsets bytes kind from target (suc n) sum at rest =
+-- A part of a stream: with the sum of the offsets so far and its place, what it spells and then what follows from the next sum and the place behind it.
+abbrev pub Part : Type 0
+Part = ℕ → ℕ → (ℕ → ℕ → Spelled) → Spelled
+
+-- so many parts, one behind the other
+unfoldable pub times : Part → ℕ → ℕ → ℕ → (ℕ → Spelled) → Spelled
+times part zero sum at rest = rest at
+times part (suc n) sum at rest = part sum at (λ more next. times part n more next rest)
+
+-- a list: its count, and as many parts; its offsets add up from 0
+abbrev pub counted : List ℕ → Part → ℕ → (ℕ → Spelled) → Spelled
+counted bytes part at rest = number bytes at (λ count first. times part count 0 first rest)
+
+-- FromOffset = from-offset-delta
+abbrev pub from_offset : List ℕ → RefKind → Extent → Target → Part
+from_offset bytes kind from target sum at more =
     number bytes at (λ delta next.
     known SplitOutsideSection at (reference_in kind from target (sum + delta)) (λ reference.
-    Next at reference (offsets bytes kind from target n (sum + delta) next rest)))
+    Next at reference (more (sum + delta) next)))
 
--- Group: kind count FromOffset*
-unfoldable pub groups : List ℕ → Extent → Target → ℕ → ℕ → (ℕ → Spelled) → Spelled
-groups bytes from target zero at rest = rest at
-groups bytes from target (suc n) at rest =
-    number bytes at (λ code counted.
+-- Group = kind count FromOffset*
+abbrev pub group : List ℕ → Extent → Target → Part
+group bytes from target sum at more =
+    number bytes at (λ code next.
     known SplitBadKind at (kind_of code) (λ kind.
-    number bytes counted (λ count first.
-    offsets bytes kind from target count 0 first (λ next. groups bytes from target n next rest))))
+    counted bytes (from_offset bytes kind from target) next (more sum)))
 
--- ToOffset: to-offset-delta count Group*. The offsets add up from 0 within one FromTo.
-unfoldable pub targets : List ℕ → Extent → Extent → ℕ → ℕ → ℕ → (ℕ → Spelled) → Spelled
-targets bytes from to zero sum at rest = rest at
-targets bytes from to (suc n) sum at rest =
-    number bytes at (λ delta counted.
+-- ToOffset = to-offset-delta count Group*
+abbrev pub to_offset : List ℕ → Extent → Extent → Part
+to_offset bytes from to sum at more =
+    number bytes at (λ delta next.
     known SplitOutsideSection at (target_in to (sum + delta)) (λ target.
-    number bytes counted (λ count first.
-    groups bytes from target count first (λ next. targets bytes from to n (sum + delta) next rest))))
+    counted bytes (group bytes from target) next (more (sum + delta))))
 
--- FromTo: from-section to-section count ToOffset*
-unfoldable pub pairs : List ℕ → Img → ℕ → ℕ → (ℕ → Spelled) → Spelled
-pairs bytes image zero at rest = rest at
-pairs bytes image (suc n) at rest =
+-- FromTo = from-section to-section count ToOffset*
+abbrev pub from_to : List ℕ → Img → Part
+from_to bytes image sum at more =
     number bytes at (λ one second.
     known SplitBadSection at (from_section image one) (λ from.
-    number bytes second (λ other counted.
+    number bytes second (λ other next.
     known SplitBadSection second (to_section image other) (λ to.
-    number bytes counted (λ count first.
-    targets bytes from to count 0 first (λ next. pairs bytes image n next rest))))))
+    counted bytes (to_offset bytes from to) next (more sum)))))
 
--- Whole: count FromTo*, behind DYLD_CACHE_ADJ_V2_FORMAT. What is behind the lists isn't read.
+-- Whole = count FromTo*
+abbrev pub whole : List ℕ → Img → ℕ → Spelled
+whole bytes image at = counted bytes (from_to bytes image) at (λ next. End)
+
+-- the stream: Whole behind DYLD_CACHE_ADJ_V2_FORMAT. What is behind the lists isn't read.
 unfoldable pub spelled : List ℕ → Img → Spelled
-spelled bytes image =
-    if nat_eq (slice_index bytes 0) 0x7F then number bytes 1 (λ count first. pairs bytes image count first (λ next. End))
-    else Refused (record { rule = SplitNotV2; at = 0 })
+spelled bytes image = if nat_eq (slice_index bytes 0) 0x7F then whole bytes image 1 else Refused (record { rule = SplitNotV2; at = 0 })

@@ -1,8 +1,8 @@
 // The nested lists of a stream, one after another.
 ghost use Rattle.std.specs.Prelude.{◌≡◌, ◌≤◌, ℕ, length, IfOk, IfErr};
-ghost use Rattle.split_info.specs.Stream.{Spelled, Refused, number, offsets, groups, targets, pairs};
+ghost use Rattle.split_info.specs.Stream.{Spelled, Refused, number};
 ghost use Rattle.split_info.specs.Split.{reference_fault};
-ghost use Rattle.split_info.specs.Reading.{ReadsTo, RefusesPart};
+ghost use Rattle.split_info.specs.Reading.{offsets, groups, targets, pairs, ReadsTo, RefusesPart};
 
 use crate::extent::{Extent, Target, from_section, reference_in, target_in, to_section};
 use crate::words::Words;

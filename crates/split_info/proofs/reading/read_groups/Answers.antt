@@ -1,5 +1,5 @@
 use Rattle.std.proofs.Common.{◌≡◌, ◌+◌, ◌-◌, suc, ◌∙◌, arith}
-use Rattle.split_info.specs.Stream.{groups}
+use Rattle.split_info.specs.Reading.{groups}
 use Rattle.split_info.proofs.PartLaws.{read_then, read_end, read_from, refused_behind, refused_is, refused_from, part_on, groups_cut, groups_end, groups_unknown, groups_known, none_is}
 use Rattle.split_info.proofs.reading.read_groups.Goals as goal
 

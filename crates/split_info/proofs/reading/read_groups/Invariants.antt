@@ -1,5 +1,5 @@
 use Rattle.std.proofs.Common.{◌≤◌, ◌-◌, length}
-use Rattle.split_info.specs.Stream.{groups}
+use Rattle.split_info.specs.Reading.{groups}
 use Rattle.split_info.proofs.PartLaws.{AreLeft}
 use Rattle.split_info.proofs.reading.read_groups.Given as goal
 

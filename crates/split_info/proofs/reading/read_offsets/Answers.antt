@@ -1,5 +1,5 @@
 use Rattle.std.proofs.Common.{◌≡◌, ◌+◌, ◌-◌, suc, sym, ◌∙◌, arith}
-use Rattle.split_info.specs.Stream.{offsets}
+use Rattle.split_info.specs.Reading.{offsets}
 use Rattle.split_info.proofs.PartLaws.{read_then, read_end, refused_behind, refused_is, part_on, offsets_cut, offsets_end, offset_read, offset_outside, offset_refused, none_is}
 use Rattle.split_info.proofs.reading.read_offsets.Goals as goal
 

@@ -1,5 +1,5 @@
 use Rattle.std.proofs.Common.{◌≤◌, ◌-◌, length}
-use Rattle.split_info.specs.Stream.{offsets}
+use Rattle.split_info.specs.Reading.{offsets}
 use Rattle.split_info.proofs.PartLaws.{AreLeft}
 use Rattle.split_info.proofs.reading.read_offsets.Given as goal
 

@@ -1,5 +1,5 @@
 use Rattle.std.proofs.Common.{◌≡◌, ◌+◌, ◌-◌, suc, sym, ◌∙◌, arith, Some, None}
-use Rattle.split_info.specs.Stream.{pairs}
+use Rattle.split_info.specs.Reading.{pairs}
 use Rattle.split_info.proofs.PartLaws.{read_then, read_end, read_from, refused_behind, refused_is, refused_from, part_on, pairs_cut, pairs_end, pairs_nowhere, pairs_from, pairs_with, none_is}
 use Rattle.split_info.proofs.reading.read_pairs.Goals as goal
 

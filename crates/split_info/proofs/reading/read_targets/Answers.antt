@@ -1,5 +1,5 @@
 use Rattle.std.proofs.Common.{◌≡◌, ◌+◌, ◌-◌, suc, ◌∙◌, arith}
-use Rattle.split_info.specs.Stream.{targets}
+use Rattle.split_info.specs.Reading.{targets}
 use Rattle.split_info.proofs.PartLaws.{read_then, read_end, read_from, refused_behind, refused_is, refused_from, part_on, targets_cut, targets_end, targets_outside, targets_inside, none_is}
 use Rattle.split_info.proofs.reading.read_targets.Goals as goal
 
