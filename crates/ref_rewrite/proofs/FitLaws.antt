@@ -205,7 +205,7 @@ sound_plan is k i st placed headers at read words long fits =
     }
 
 -- numbered twice is numbered once
-numbered_twice : {X Y Z : Type 0} (f : ℕ → Y → Z) (g : ℕ → X → Y) (xs : List X) → numbered f (numbered g xs) ≡ numbered (λ k x. f k (g k x)) xs
+pub numbered_twice : {X Y Z : Type 0} (f : ℕ → Y → Z) (g : ℕ → X → Y) (xs : List X) → numbered f (numbered g xs) ≡ numbered (λ k x. f k (g k x)) xs
 numbered_twice {X} {Y} {Z} f g xs = from 0 xs
   where
     from : (n : ℕ) (ys : List X) → map (λ (p : ℕ × Y). f p.0 p.1) (enumerate_from n (map (λ (p : ℕ × X). g p.0 p.1) (enumerate_from n ys))) ≡ map (λ (p : ℕ × X). f p.0 (g p.0 p.1)) (enumerate_from n ys)
@@ -247,10 +247,10 @@ pub record IsPlanned (set : ImageSet) (placed : List (List PlacedWord)) (headers
   pub sized : AreSized headers set.images
   pub values : (k : ℕ) (i : Img) → k < length set.images → i ≡ get_or set.images k i → AllFit (plan_in (layout_of set.images) set placed k i).edits
 
-abbrev headed : ImageSet → List (List PlacedWord) → List (List ℕ) → ℕ → Img → Plan
+abbrev pub headed : ImageSet → List (List PlacedWord) → List (List ℕ) → ℕ → Img → Plan
 headed set placed headers k i = with_header headers k (plan_in (layout_of set.images) set placed k i)
 
-each_sound : (set : ImageSet) (placed : List (List PlacedWord)) (headers : List (List ℕ)) → IsPlanned set placed headers → (k : ℕ) (i : Img) → k < length set.images → i ≡ get_or set.images k i → IsSoundPlan (headed set placed headers k i)
+pub each_sound : (set : ImageSet) (placed : List (List PlacedWord)) (headers : List (List ℕ)) → IsPlanned set placed headers → (k : ℕ) (i : Img) → k < length set.images → i ≡ get_or set.images k i → IsSoundPlan (headed set placed headers k i)
 each_sound set placed headers given k i lt at =
     let is : List Img = set.images in
     let image : slice_get is k ≡ Some i = slice_get_read is (length is) k i refl lt at in
