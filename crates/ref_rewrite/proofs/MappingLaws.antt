@@ -1,17 +1,17 @@
 -- A mapping once the plans of all images are carried out: the pages of its segments with the words of all images set.
-use Rattle.std.proofs.Common.{◌≡◌, ◌≤◌, ◌<◌, ◌⊎◌, ℕ, zero, suc, ◌+◌, ◌-◌, Bool, true, false, cond, Option, Some, None, List, [], ◌∷◌, ◌++◌, length, map, filter, take, get_or, refl, sym, ap, ap₂, ◌∙◌, subst, arith, inl, inr, append_assoc, length-append}
+use Rattle.std.proofs.Common.{◌≡◌, ◌≤◌, ◌<◌, ◌⊎◌, ℕ, ◌+◌, ◌-◌, Bool, cond, Option, Some, List, [], ◌∷◌, ◌++◌, length, map, filter, take, get_or, refl, sym, ap, ap₂, ◌∙◌, subst, arith, inl, inr, append_assoc, length-append}
 use Rattle.std.specs.Prelude.{slice_get, slice_index_or}
-use Rattle.std.specs.List.{All, flat_map, enumerate_from, sum_by}
+use Rattle.std.specs.List.{All, flat_map, enumerate_from}
 use Rattle.std.proofs.lemmas.Bool.{cases_Bool}
-use Rattle.std.proofs.lemmas.List.{take_at, append-nil}
+use Rattle.std.proofs.lemmas.List.{take_at}
 use Rattle.std.proofs.lemmas.List.Elements.{All-head, All-tail}
 use Rattle.std.proofs.lemmas.List.Sums.{sum_by_push, sum_by-cons, sum_by-append}
-use Rattle.std.proofs.lemmas.Option.{slice_get_read, slice_get_within, get_or_from_slice_get}
+use Rattle.std.proofs.lemmas.Option.{slice_get_read}
 use Rattle.dsc_base.specs.declared.edits.Edit.{Edit}
 use Rattle.dsc_base.specs.declared.fault.Span.{Span}
 use Rattle.dsc_base.specs.Edits.{put_all, AllInside, further}
 use Rattle.dsc_base.proofs.EditLaws.{length-put_all, put_all-append, put_all-append_left, put_all-append_right}
-use Rattle.macho_image.specs.Records.{Seg, Img}
+use Rattle.macho_image.specs.Records.{Img}
 use Rattle.macho_image.specs.Segments.{segments_in}
 use Rattle.prebind.specs.declared.resolved.PlacedWord.{PlacedWord}
 use Rattle.prebind.specs.Sets.{ImageSet}
@@ -25,7 +25,7 @@ use Rattle.cache_layout.specs.Parts.{image_part, mapping_part}
 use Rattle.cache_layout.proofs.PlaceLaws.{range_in-is}
 use Rattle.cache_layout.proofs.SpanLaws.{image_ends}
 use Rattle.ref_rewrite.specs.Plans.{Plan, IsInside, IsOwn, IsSoundPlan}
-use Rattle.ref_rewrite.specs.Planned.{span_in, plan_of, plan_in, plans_of, with_header, with_headers}
+use Rattle.ref_rewrite.specs.Planned.{IsLayout, span_in, plan_of, plan_in, plans_of, with_header, with_headers}
 use Rattle.ref_rewrite.specs.Pages.{segment_pages, all_pages, part_of, all_edits}
 use Rattle.ref_rewrite.specs.Rewritten.{lies_in, edits_in, rewritten, joined}
 use Rattle.ref_rewrite.proofs.SpanLaws.{inside, edits_in-append}
@@ -111,9 +111,10 @@ same_own set placed headers m k i u v (e ∷ es) at one two own wide =
     let P : Edit → Type 0 = λ x. IsOwn (headed set placed headers k i) x.at x.width in
     let W : Edit → Type 0 = λ x. (x.width ≡ 4) ⊎ (x.width ≡ 8) in
     let part = own_part set placed headers k i e.at e.width (All-head P e es own) in
-    let some : 0 < e.width = some_wide e.width (All-head W e es wide) in
-    (lies_as is m part.0 k i v e.at e.width at two part.1 some ∙ sym (lies_as is m part.0 k i u e.at e.width at one part.1 some),
-    same_own set placed headers m k i u v es at one two (All-tail P e es own) (All-tail W e es wide))
+    let some : 0 < e.width = some_wide e.width (All-head W e es wide) in (
+      lies_as is m part.0 k i v e.at e.width at two part.1 some ∙ sym (lies_as is m part.0 k i u e.at e.width at one part.1 some),
+      same_own set placed headers m k i u v es at one two (All-tail P e es own) (All-tail W e es wide),
+    )
 
 -- ---- the images from one on
 
@@ -291,3 +292,11 @@ mapping_rewritten set placed headers m given =
     ap (λ (ps : List Plan). joined (part_of m) ps) (numbered_twice (with_header headers) (plan_in l set placed) is)
     ∙ (from_image set placed headers m t [] is given refl (record { low = omega (arith, at); end = omega (arith, at, len) }) (omega (arith, at))
     ∙ ap (put_all (edits_in t (all_edits (plans_from set placed 0 is)))) (all_pages_are is headers m [] is refl))
+
+pub made_rewritten : (l : Laid) (set : ImageSet) (placed : List (List PlacedWord)) (plans : List Plan) (headers : List (List ℕ)) (m : Mapping) → IsLayout l set.images → plans ≡ plans_of l set placed → IsPlanned set placed headers
+    → joined (part_of m) (with_headers headers plans) ≡ put_all (edits_in (range_in l m) (all_edits plans)) (mapping_part m (all_pages headers set.images) set.images)
+made_rewritten l set placed plans headers m layout made given =
+    let pages : List ℕ = mapping_part m (all_pages headers set.images) set.images in
+    let same : plans ≡ plans_of (layout_of set.images) set placed = made ∙ ap (λ (laid : Laid). plans_of laid set placed) layout.is in
+    subst (λ (laid : Laid). joined (part_of m) (with_headers headers plans) ≡ put_all (edits_in (range_in laid m) (all_edits plans)) pages) (sym layout.is)
+    (subst (λ (ps : List Plan). joined (part_of m) (with_headers headers ps) ≡ put_all (edits_in (range_in (layout_of set.images) m) (all_edits ps)) pages) (sym same) (mapping_rewritten set placed headers m given))
