@@ -15,5 +15,6 @@ pub mod ReferenceLaws
 pub mod RewrittenLaws
 mod RunLaws
 pub mod SetLaws
+pub mod SpacedLaws
 mod SpanFacts
 mod SpanLaws
