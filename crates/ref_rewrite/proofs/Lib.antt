@@ -3,6 +3,7 @@ pub mod ChainedLaws
 pub mod CopyLaws
 pub mod EditFits
 pub mod FitLaws
+pub mod FollowingLaws
 pub mod FollowsLaws
 pub mod HomeLaws
 pub mod JoinedLaws
