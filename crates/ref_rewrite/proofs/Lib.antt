@@ -3,9 +3,11 @@ pub mod ChainedLaws
 pub mod CopyLaws
 pub mod EditFits
 pub mod FitLaws
+pub mod FollowingLaws
 pub mod FollowsLaws
 pub mod HomeLaws
 pub mod JoinedLaws
+pub mod MappingLaws
 pub mod PageLaws
 pub mod PlacedLaws
 pub mod PlanLaws
@@ -14,5 +16,6 @@ pub mod ReferenceLaws
 pub mod RewrittenLaws
 mod RunLaws
 pub mod SetLaws
+pub mod SpacedLaws
 mod SpanFacts
 mod SpanLaws
