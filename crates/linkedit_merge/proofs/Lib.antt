@@ -9,3 +9,6 @@ pub mod ShareLaws
 pub mod MergeLaws
 pub mod SpotLaws
 pub mod SetLaws
+pub mod NameLaws
+pub mod TableLaws
+pub mod ReadLaws

@@ -15,11 +15,13 @@ ghost use Rattle.linkedit_merge.specs.Indices.{names_of, pool_len, IsPool};
 ghost use Rattle.linkedit_merge.specs.Linkedit as spec;
 ghost use Rattle.linkedit_merge.specs.Parts.{joined, end_behind, lens_of, span_behind, spans_behind};
 ghost use Rattle.linkedit_merge.specs.Pool.{pool_bytes};
+ghost use Rattle.linkedit_merge.specs.ReadBack.{AllReadBack};
 ghost use Rattle.linkedit_merge.specs.Shares.{shares_of};
 ghost use Rattle.linkedit_merge.specs.Sizes as size;
 ghost use Rattle.linkedit_merge.specs.Spots.{IsLow};
 ghost use Rattle.linkedit_merge.specs.Written.{IsWritten};
 
+use crate::fields::read_fields;
 use crate::images::{indirect_size, move_all, put_all_streams, streams_size, symbols_size};
 use crate::merged::{put_indices, put_pool, put_symbols};
 use crate::pool::{Pool, pool_of};
@@ -157,7 +159,9 @@ fn merge_images(
     ensures bytes { IfOk result (λ r. r.0.items ≡ spec.linkedit_of (shares_of images.now tables.now layout.now.moves)) }
     ensures spots { IfOk result (λ r. r.1.items ≡ spec.spots_of (spec.linkedit_start layout.now slide_size) (shares_of images.now tables.now layout.now.moves)) }
     ensures cause { RefusesSet (spec.merge_break layout.now slide_size (shares_of images.now tables.now layout.now.moves)) result }
+    ensures read_back { IfOk result (λ r. AllReadBack (spec.linkedit_start layout.now slide_size) r.0.items (shares_of images.now tables.now layout.now.moves) r.1.items) }
 {
+    read_fields(tables);
     let exports = move_all(alloc, images, layout)?;
     let pool = pool_of(alloc, tables)?;
     let sizes = measure(alloc, images, &exports, tables, pool.len)?;
@@ -199,6 +203,8 @@ pub fn merge(
     ensures bytes { IfOk result (λ r. r.0.items ≡ spec.linkedit_of (shares_of set.now.images.now tables.now layout.now.moves)) }
     ensures spots { IfOk result (λ r. r.1.items ≡ spec.spots_of (spec.linkedit_start layout.now slide_size) (shares_of set.now.images.now tables.now layout.now.moves)) }
     ensures cause { RefusesSet (spec.merge_break layout.now slide_size (shares_of set.now.images.now tables.now layout.now.moves)) result }
+    // By its spots each image finds its own streams, and its tables with moved values.
+    ensures read_back { IfOk result (λ r. AllReadBack (spec.linkedit_start layout.now slide_size) r.0.items (shares_of set.now.images.now tables.now layout.now.moves) r.1.items) }
 {
     merge_images(alloc, set.images, tables, layout, slide_size)
 }
