@@ -1,6 +1,13 @@
 -- What is read back of a linkedit by an image's spots.
-use Rattle.std.specs.Prelude.{◌≡◌, ◌<◌, ℕ, ◌^◌, List, length, Some, slice_get, All}
+use Rattle.std.specs.Prelude.{◌≡◌, ◌<◌, ℕ, ◌^◌, List, [], length, Some, None, slice_get, slice_index_or, All}
 use Rattle.macho_image.specs.Nlists.{nlists_of, indirect_of}
+use Rattle.macho_image.specs.Records.{Img}
+use Rattle.macho_image.specs.declared.place.Moved.{Moved}
+use Rattle.export_trie.specs.declared.export.Export.{Export}
+use Rattle.export_trie.specs.Exports.{exports_of}
+use Rattle.export_trie.specs.Order.{trie_break}
+use Rattle.export_trie.specs.Writing.{trie_bytes}
+use Rattle.linkedit_merge.specs.Exports.{moved_exports}
 use Rattle.macho_edit.specs.declared.spots.LinkSpots.{LinkSpots}
 use Rattle.nlist_table.specs.Symbols.{Sym, Tabs, tables_from}
 use Rattle.linkedit_merge.specs.Parts.{bytes_in}
@@ -34,3 +41,17 @@ pub record ReadsBack (start : ℕ) (linkedit : List ℕ) (share : Share) (spots 
 abbrev pub AllReadBack : ℕ → List ℕ → List Share → List LinkSpots → Type 0
 AllReadBack start linkedit shares spots =
     (k : ℕ) (share : Share) (s : LinkSpots) → slice_get shares k ≡ Some share → slice_get spots k ≡ Some s → ReadsBack start linkedit share s
+
+-- the trie that is written of exports breaks no rule and has these exports
+pub record IsTrie (exports : List Export) : Type 0 where
+  pub accepted : trie_break (trie_bytes exports) ≡ None
+  pub back : exports_of (trie_bytes exports) ≡ exports
+
+-- those of each of so many images do
+abbrev pub AreTries : List (List Export) → ℕ → Type 0
+AreTries exports count = (k : ℕ) → k < count → IsTrie (slice_index_or exports k [])
+
+-- the tries of all images, with moved offsets
+abbrev pub HaveMovedTries : List Img → List (List Moved) → Type 0
+HaveMovedTries images moves =
+    (k : ℕ) (image : Img) → slice_get images k ≡ Some image → IsTrie (moved_exports image.segments (slice_index_or moves k []) (exports_of image.streams.exports))
