@@ -12,3 +12,5 @@ pub mod SetLaws
 pub mod NameLaws
 pub mod TableLaws
 pub mod ReadLaws
+pub mod Rows
+pub mod LeadLaws

@@ -166,5 +166,5 @@ returns-clause-exports c = λ k image found.
     let items = λ (e : Vec Export Global). e.items in
     let lt = slice_get_within images k image found in
     let own = ap (λ (l : List (List Export)). get_or l k []) (ap (λ (l : List (Vec Export Global)). map items l) c.deref-2.ensures.value ∙ c.in_ok-exports.ensures.moved)
-      ∙ numbered-get (moved_at moves) images k image [] lt (sym (get_or_from_slice_get images k image image found)) in
+    ∙ numbered-get (moved_at moves) images k image [] lt (sym (get_or_from_slice_get images k image image found)) in
     subst IsTrie own (c.in_ok-written.ensures.tries k lt)
