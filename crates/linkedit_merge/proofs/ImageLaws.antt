@@ -1,5 +1,6 @@
 -- The streams of images in turn.
-use Rattle.std.proofs.Common.{◌≡◌, ◌≤◌, ◌<◌, ℕ, ◌+◌, List, [], ◌∷◌, ◌++◌, Vec, Global, length, map, take, drop, get_or, sym, ap, ap₂, ◌∙◌, arith}
+use Rattle.std.proofs.Common.{◌≡◌, ◌≤◌, ◌<◌, ℕ, ◌+◌, List, [], ◌∷◌, ◌++◌, Vec, Global, length, map, take, drop, get_or, sym, ap, ap₂, ◌∙◌, arith, subst, below_more}
+use Rattle.linkedit_merge.specs.ReadBack.{IsTrie, AreTries}
 use Rattle.std.specs.List.{flat_map}
 use Rattle.std.proofs.lemmas.List.{append-nil, map-append, drop_more, drop_all, get_or-map}
 use Rattle.std.proofs.lemmas.List.Concat.{flat_map-append}
@@ -99,3 +100,7 @@ end_next exports images n streams own end h =
 
 pub end_last : (exports : List (List Export)) (images : List Img) (n end : ℕ) → length images ≤ n → end_behind end (lens_of (flat (drop n (numbered (own_at exports) images)))) ≡ end
 end_last exports images n end past = ends_all end (numbered (own_at exports) images) n (omega (arith, many_own exports images))
+
+-- one trie more
+pub tries_next : (exports : List (List Export)) (n : ℕ) (own : List Export) → AreTries exports n → own ≡ get_or exports n [] → IsTrie own → AreTries exports (n + 1)
+tries_next exports n own so_far is trie = below_more (λ (k : ℕ). IsTrie (get_or exports k [])) n so_far (subst IsTrie is trie)

@@ -9,3 +9,8 @@ pub mod ShareLaws
 pub mod MergeLaws
 pub mod SpotLaws
 pub mod SetLaws
+pub mod NameLaws
+pub mod TableLaws
+pub mod ReadLaws
+pub mod Rows
+pub mod LeadLaws

@@ -4,6 +4,7 @@ pub mod Indices
 pub mod Linkedit
 pub mod Parts
 pub mod Pool
+pub mod ReadBack
 pub mod Shares
 pub mod Sizes
 pub mod Spots

@@ -96,15 +96,10 @@ fn moved_export(
     requires new { header.new ≡ spec.new_header segments.now moves.now }
     ensures { result ≡ spec.moved_export segments.now moves.now export }
 {
-    let Export {
-        name,
-        flags,
-        target,
-    } = export;
     Export {
-        name,
-        flags,
-        target: moved_target(segments, index, moves, header, target),
+        name: export.name,
+        flags: export.flags,
+        target: moved_target(segments, index, moves, header, export.target),
     }
 }
 

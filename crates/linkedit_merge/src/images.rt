@@ -6,6 +6,7 @@ ghost use Rattle.export_trie.specs.Order.{trie_break};
 ghost use Rattle.export_trie.specs.Writing.{IsWritable};
 ghost use Rattle.cache_layout.specs.Places.{numbered};
 ghost use Rattle.linkedit_merge.specs.Parts.{end_behind, lens_of, joined_behind, spans_behind};
+ghost use Rattle.linkedit_merge.specs.ReadBack.{AreTries};
 ghost use Rattle.linkedit_merge.specs.Sizes as sizes;
 
 use crate::exports::move_exports;
@@ -94,6 +95,7 @@ pub(crate) fn put_all_streams(
     ensures bytes { OnOk result (out.new.items ≡ joined_behind out.old.items (sizes.all_streams (map (λ e. e.items) exports.now) images.now)) }
     ensures spots { IfOk result (λ v. flat_map sizes.spans_of v.items ≡ spans_behind start (length out.old.items) (lens_of (sizes.all_streams (map (λ e. e.items) exports.now) images.now))) }
     ensures many { IfOk result (λ v. length v.items ≡ length images.now) }
+    ensures tries { OnOk result (AreTries (map (λ e. e.items) exports.now) (length images.now)) }
 {
     let mut spots = Vec::with_capacity(alloc, images.len())?;
     for (number, image) in images.iter().enumerate() {

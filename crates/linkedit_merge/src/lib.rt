@@ -3,6 +3,7 @@
 #![tactic(auto)]
 
 mod exports;
+mod fields;
 mod images;
 mod merged;
 mod merging;

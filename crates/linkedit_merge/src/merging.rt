@@ -1,5 +1,5 @@
 // The merged linkedit of a set of images.
-ghost use Rattle.std.specs.Prelude.{◌≡◌, ◌≤◌, ◌+◌, ◌++◌, ◌∷◌, [], None, map, length, All, IfOk, IfErr};
+ghost use Rattle.std.specs.Prelude.{◌≡◌, ◌≤◌, ◌+◌, ◌++◌, ◌∷◌, [], None, map, length, All, IfOk, IfErr, OnOk};
 ghost use Rattle.std.specs.List.{flat_map};
 ghost use Rattle.dsc_base.specs.Limits.{span_limit};
 ghost use Rattle.dsc_base.specs.Refusals.{RefusesSet};
@@ -15,11 +15,13 @@ ghost use Rattle.linkedit_merge.specs.Indices.{names_of, pool_len, IsPool};
 ghost use Rattle.linkedit_merge.specs.Linkedit as spec;
 ghost use Rattle.linkedit_merge.specs.Parts.{joined, end_behind, lens_of, span_behind, spans_behind};
 ghost use Rattle.linkedit_merge.specs.Pool.{pool_bytes};
+ghost use Rattle.linkedit_merge.specs.ReadBack.{AllReadBack, AreTries, HaveMovedTries};
 ghost use Rattle.linkedit_merge.specs.Shares.{shares_of};
 ghost use Rattle.linkedit_merge.specs.Sizes as size;
 ghost use Rattle.linkedit_merge.specs.Spots.{IsLow};
 ghost use Rattle.linkedit_merge.specs.Written.{IsWritten};
 
+use crate::fields::read_fields;
 use crate::images::{indirect_size, move_all, put_all_streams, streams_size, symbols_size};
 use crate::merged::{put_indices, put_pool, put_symbols};
 use crate::pool::{Pool, pool_of};
@@ -99,6 +101,7 @@ fn write(
     requires moves { HaveMoves images.now layout.now.moves }
     requires pool { IsPool pool.now }
     ensures low { IfOk result (λ w. IsLow w.frame) }
+    ensures tries { OnOk result (AreTries (map (λ e. e.items) exports.now) (length images.now)) }
     ensures written { IfOk result (IsWritten start sizes.whole (length images.now) (size.all_streams (map (λ e. e.items) exports.now) images.now) (spec.tables_in (names_of pool.now) (shares_of images.now tables.now layout.now.moves))) }
 {
     let mut bytes = Vec::with_capacity(alloc, sizes.whole as usize)?;
@@ -157,7 +160,10 @@ fn merge_images(
     ensures bytes { IfOk result (λ r. r.0.items ≡ spec.linkedit_of (shares_of images.now tables.now layout.now.moves)) }
     ensures spots { IfOk result (λ r. r.1.items ≡ spec.spots_of (spec.linkedit_start layout.now slide_size) (shares_of images.now tables.now layout.now.moves)) }
     ensures cause { RefusesSet (spec.merge_break layout.now slide_size (shares_of images.now tables.now layout.now.moves)) result }
+    ensures read_back { IfOk result (λ r. AllReadBack (spec.linkedit_start layout.now slide_size) r.0.items (shares_of images.now tables.now layout.now.moves) r.1.items) }
+    ensures exports { OnOk result (HaveMovedTries images.now layout.now.moves) }
 {
+    read_fields(tables);
     let exports = move_all(alloc, images, layout)?;
     let pool = pool_of(alloc, tables)?;
     let sizes = measure(alloc, images, &exports, tables, pool.len)?;
@@ -199,6 +205,10 @@ pub fn merge(
     ensures bytes { IfOk result (λ r. r.0.items ≡ spec.linkedit_of (shares_of set.now.images.now tables.now layout.now.moves)) }
     ensures spots { IfOk result (λ r. r.1.items ≡ spec.spots_of (spec.linkedit_start layout.now slide_size) (shares_of set.now.images.now tables.now layout.now.moves)) }
     ensures cause { RefusesSet (spec.merge_break layout.now slide_size (shares_of set.now.images.now tables.now layout.now.moves)) result }
+    // By its spots each image finds its own streams, and its tables with moved values.
+    ensures read_back { IfOk result (λ r. AllReadBack (spec.linkedit_start layout.now slide_size) r.0.items (shares_of set.now.images.now tables.now layout.now.moves) r.1.items) }
+    // Each trie is accepted, and its exports are the moved ones.
+    ensures exports { OnOk result (HaveMovedTries set.now.images.now layout.now.moves) }
 {
     merge_images(alloc, set.images, tables, layout, slide_size)
 }

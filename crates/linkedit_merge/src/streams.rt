@@ -3,6 +3,7 @@ ghost use Rattle.std.specs.Prelude.{◌≡◌, ◌≤◌, ◌^◌, length, OnOk,
 ghost use Rattle.dsc_base.specs.Limits.{span_limit};
 ghost use Rattle.export_trie.specs.Writing.{IsWritable};
 ghost use Rattle.linkedit_merge.specs.Parts as parts;
+ghost use Rattle.linkedit_merge.specs.ReadBack.{IsTrie};
 ghost use Rattle.linkedit_merge.specs.Sizes.{IsSize, Exceeds, own_streams, spans_of};
 
 use crate::parts::{put_part, span_behind};
@@ -66,6 +67,7 @@ pub(crate) fn put_streams(
     requires start { start ≤ 2 ^ 32 }
     requires writable { IsWritable exports.now }
     ensures bytes { OnOk result (out.new.items ≡ parts.joined_behind out.old.items (own_streams streams.now exports.now)) }
+    ensures trie { OnOk result (IsTrie exports.now) }
     ensures spots { IfOk result (λ s. spans_of s ≡ parts.spans_behind start (length out.old.items) (parts.lens_of (own_streams streams.now exports.now))) }
 {
     let trie = write_trie(alloc, exports)?;

@@ -7,7 +7,7 @@ use Rattle.export_trie.specs.declared.export.Export.{Export}
 use Rattle.linkedit_merge.specs.declared.streams.StreamSpots.{StreamSpots}
 use Rattle.linkedit_merge.specs.Parts.{joined_behind, spans_behind}
 use Rattle.linkedit_merge.specs.Sizes.{spans_of}
-use Rattle.linkedit_merge.proofs.ImageLaws.{IsNext, exports_there, bytes_next, spots_next}
+use Rattle.linkedit_merge.proofs.ImageLaws.{IsNext, exports_there, bytes_next, spots_next, tries_next}
 use Rattle.linkedit_merge.proofs.images.put_all_streams.Goals as goal
 
 pub loop-number-init : goal.loop-number-init
@@ -15,6 +15,7 @@ unfolding joined_behind spans_behind
 loop-number-init c = record {
   bytes = refl;
   spots = ap (λ (l : List StreamSpots). flat_map spans_of l) c.in_ok-spots.ensures.items;
+  tries = λ k none. absurd (omega arith);
   many = ap (λ (l : List StreamSpots). length l) c.in_ok-spots.ensures.items;
 }
 
@@ -37,5 +38,6 @@ loop-number-preserved c =
       spots =
           spots_next exports images n streams own c.args.start c.args.out.now.items c.loop-number.out.items c.loop-number.spots.items c.push.new.self.items c.in_ok-put_streams.field-0
           h c.loop-number.invariant.bytes c.loop-number.invariant.spots c.in_ok-put_streams.ensures.spots c.in_ok-push.ensures.items;
+      tries = tries_next exports n own c.loop-number.invariant.tries h.own_is c.in_ok-put_streams.ensures.trie;
       many = ap (λ (l : List StreamSpots). length l) c.in_ok-push.ensures.items ∙ (length_push c.loop-number.spots.items c.in_ok-put_streams.field-0 ∙ ap (λ (k : ℕ). k + 1) c.loop-number.invariant.many);
     }

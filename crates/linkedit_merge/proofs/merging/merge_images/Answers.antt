@@ -1,15 +1,16 @@
 -- What is measured and written are the parts of the shares.
-use Rattle.std.proofs.Common.{◌≡◌, ◌∙◌, ℕ, List, [], Vec, Global, map, length, sym, ap, ap₂, arith, Some, Option}
+use Rattle.std.proofs.Common.{◌≡◌, ◌∙◌, ℕ, List, [], Vec, Global, map, length, sym, ap, ap₂, arith, Some, Option, get_or, ◌≤◌, subst}
 use Rattle.std.specs.List.{flat_map}
 use Rattle.std.proofs.lemmas.List.{length-map}
+use Rattle.std.proofs.lemmas.Option.{slice_get_within, get_or_from_slice_get}
 use Rattle.dsc_base.specs.Region.{paged}
 use Rattle.dsc_base.specs.declared.fault.Break.{Break}
 use Rattle.export_trie.specs.declared.export.Export.{Export}
 use Rattle.nlist_table.specs.Symbols.{Tabs}
 use Rattle.cache_layout.specs.Places.{numbered}
-use Rattle.cache_layout.proofs.NumberedLaws.{length-numbered}
+use Rattle.cache_layout.proofs.NumberedLaws.{numbered-get, length-numbered}
 use Rattle.linkedit_merge.specs.Indices.{names_of, pool_len}
-use Rattle.linkedit_merge.specs.Linkedit.{linkedit_of, linkedit_size, linkedit_start}
+use Rattle.linkedit_merge.specs.Linkedit.{linkedit_of, linkedit_size, linkedit_start, pool_of}
 use Rattle.linkedit_merge.specs.Parts.{joined, lens_of, spans_behind}
 use Rattle.linkedit_merge.specs.Pool.{pooled_behind, symbol_names}
 use Rattle.linkedit_merge.specs.Shares.{shares_of}
@@ -17,7 +18,11 @@ use Rattle.linkedit_merge.specs.Sizes.{moved_at, whole_size}
 use Rattle.linkedit_merge.specs.declared.streams.StreamSpots.{StreamSpots}
 use Rattle.linkedit_merge.specs.Spots.{spots_from}
 use Rattle.linkedit_merge.proofs.MergeLaws.{names_are, parts_are, size_is, breaks_where, fits_where, refused_exit, pool_within}
+use Rattle.linkedit_merge.specs.ReadBack.{AllReadBack, IsTrie}
+use Rattle.linkedit_merge.proofs.ReadLaws.{all_read_back}
 use Rattle.linkedit_merge.proofs.SpotLaws.{IsFrame, spots_are}
+use Rattle.dsc_base.specs.Limits.{span_limit}
+use Rattle.macho_edit.specs.declared.spots.LinkSpots.{LinkSpots}
 use Rattle.linkedit_merge.proofs.merging.merge_images.Goals as goal
 
 pub returns-in_err-pool-clause-cause : goal.returns-in_err-pool-clause-cause
@@ -140,3 +145,26 @@ returns-clause-cause c =
     c.in_ok-sizes.ensures.whole.0 ∙ (ap (λ (n : ℕ). whole_size exports images tables n) c.in_ok-pool.ensures.pool.long ∙ sym size) in
     fits_where c.args.layout.now c.args.slide_size shares
     (omega (arith, c.if-start-page_up-gt-SPAN_LIMIT.false, c.linkedit_start-start.ensures.start, c.page_up.ensures.value, ap paged whole))
+
+pub returns-clause-read_back : goal.returns-clause-read_back
+returns-clause-read_back c =
+    let images = c.args.images.now in
+    let tables = c.args.tables.now in
+    let moves = c.args.layout.now.moves in
+    let shares = shares_of images tables moves in
+    let start = linkedit_start c.args.layout.now c.args.slide_size in
+    let names_is : names_of c.in_ok-pool.pool ≡ pool_of shares = c.in_ok-pool.ensures.names ∙ sym (names_are images tables moves c.requires.tables.many) in
+    let few : pool_len (pool_of shares) ≤ span_limit = omega (arith, c.in_ok-pool.ensures.pool.long, c.in_ok-pool.ensures.pool.low, ap pool_len names_is) in
+    subst (λ (bytes : List ℕ). AllReadBack start bytes shares c.in_ok-spots.spots.items) (sym (returns-clause-bytes c))
+    (subst (λ (spots : List LinkSpots). AllReadBack start (linkedit_of shares) shares spots) (sym (returns-clause-spots c))
+    (all_read_back start images tables moves c.requires.tables c.read_fields.ensures few))
+
+pub returns-clause-exports : goal.returns-clause-exports
+returns-clause-exports c = λ k image found.
+    let images = c.args.images.now in
+    let moves = c.args.layout.now.moves in
+    let items = λ (e : Vec Export Global). e.items in
+    let lt = slice_get_within images k image found in
+    let own = ap (λ (l : List (List Export)). get_or l k []) (ap (λ (l : List (Vec Export Global)). map items l) c.deref-2.ensures.value ∙ c.in_ok-exports.ensures.moved)
+    ∙ numbered-get (moved_at moves) images k image [] lt (sym (get_or_from_slice_get images k image image found)) in
+    subst IsTrie own (c.in_ok-written.ensures.tries k lt)

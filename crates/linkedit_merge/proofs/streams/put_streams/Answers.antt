@@ -6,6 +6,9 @@ use Rattle.linkedit_merge.specs.declared.streams.StreamSpots.{StreamSpots}
 use Rattle.linkedit_merge.specs.Sizes.{own_streams, spans_of}
 use Rattle.linkedit_merge.proofs.StreamLaws.{put_bytes, put_spots}
 use Rattle.export_trie.specs.Writing.{trie_bytes}
+use Rattle.std.specs.Prelude.{None}
+use Rattle.export_trie.specs.Exports.{exports_of}
+use Rattle.export_trie.specs.Order.{trie_break}
 use Rattle.linkedit_merge.proofs.streams.put_streams.Goals as goal
 
 pub returns-clause-bytes : goal.returns-clause-bytes
@@ -43,3 +46,9 @@ returns-clause-spots c =
     })
     (record { bytes = c.in_ok-put_stream-4.ensures.bytes; span = c.in_ok-put_stream-4.ensures.span })
     (record { bytes = c.in_ok-put_stream-5.ensures.bytes; span = c.in_ok-put_stream-5.ensures.span }))
+
+pub returns-clause-trie : goal.returns-clause-trie
+returns-clause-trie c = record {
+  accepted = subst (λ (l : List ℕ). trie_break l ≡ None) c.in_ok-trie.ensures.bytes c.in_ok-trie.ensures.accepted;
+  back = subst (λ (l : List ℕ). exports_of l ≡ c.args.exports.now) c.in_ok-trie.ensures.bytes c.in_ok-trie.ensures.read_back;
+}
