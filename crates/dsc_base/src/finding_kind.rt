@@ -2,7 +2,7 @@
 ghost use Rattle.std.specs.Prelude.{◌≡◌};
 ghost use Rattle.dsc_base.specs.FindingNames.{number_of, name_of};
 
-/// What is wrong with a cache. `docs/FORMATS.md` says when each holds.
+/// What is wrong with a cache. `docs/RULES.md` says when each holds.
 #[derive(Clone, Copy, Debug, PartialEq, Eq, PartialOrd, Ord)]
 pub enum FindingKind {
     CacheTooLarge,

@@ -2,7 +2,7 @@
 ghost use Rattle.std.specs.Prelude.{◌≡◌};
 ghost use Rattle.dsc_base.specs.RuleNames.{number_of, name_of};
 
-/// A rule that the input of a build breaks. `docs/FORMATS.md` says when each holds.
+/// A rule that the input of a build breaks. `docs/RULES.md` says when each holds.
 #[derive(Clone, Copy, Debug, PartialEq, Eq, PartialOrd, Ord)]
 pub enum Rule {
     FileTooLarge,
