@@ -1,12 +1,12 @@
 -- The chained words of all images follow one another in the data mapping.
-use Rattle.std.proofs.Common.{◌≡◌, ◌≤◌, ◌<◌, ℕ, zero, suc, ◌+◌, ◌-◌, ◌%◌, Bool, true, false, ◌&&◌, cond, if◌then◌else◌, nat_eq, Option, Some, None, List, [], ◌∷◌, ◌++◌, length, map, filter, take, get_or, refl, sym, ap, ap₂, ◌∙◌, subst, arith, inl, inr, append_assoc, length-append}
+use Rattle.std.proofs.Common.{◌≡◌, ◌≤◌, ◌<◌, ℕ, suc, ◌+◌, ◌-◌, ◌%◌, Bool, true, false, if◌then◌else◌, nat_eq, Option, Some, None, List, [], ◌∷◌, ◌++◌, length, map, filter, take, get_or, refl, sym, ap, ◌∙◌, subst, arith, inl, inr, append_assoc, length-append}
 use Rattle.std.specs.Prelude.{slice_get, slice_index_or}
-use Rattle.std.specs.List.{All, flat_map, enumerate_from, sum_by}
+use Rattle.std.specs.List.{All, flat_map, enumerate_from}
 use Rattle.std.proofs.lemmas.Bool.{cases_Bool, cond-true, cond-false, eqb-true, and_parts}
-use Rattle.std.proofs.lemmas.List.{take_at, append-nil}
+use Rattle.std.proofs.lemmas.List.{take_at, append-nil, get_or-map}
 use Rattle.std.proofs.lemmas.List.Elements.{All-head, All-tail}
 use Rattle.std.proofs.lemmas.List.Sums.{sum_by_push}
-use Rattle.std.proofs.lemmas.Option.{same_Some, slice_get_read, slice_get-get_or}
+use Rattle.std.proofs.lemmas.Option.{same_Some, slice_get_read, slice_get-get_or, slice_get_within, get_or_from_slice_get}
 use Rattle.dsc_base.specs.Region.{paged}
 use Rattle.dsc_base.specs.declared.fault.Span.{Span}
 use Rattle.macho_image.specs.Records.{Seg, Img}
@@ -15,20 +15,18 @@ use Rattle.macho_image.specs.declared.place.Moved.{Moved}
 use Rattle.macho_image.specs.Places.{IsWord}
 use Rattle.prebind.specs.declared.resolved.PlacedWord.{PlacedWord}
 use Rattle.prebind.specs.Sets.{StreamLists, ImageSet}
-use Rattle.prebind.specs.Words.{streams_in, streams_at}
 use Rattle.cache_layout.specs.declared.mapping.Mapping.{Mapping}
 use Rattle.cache_layout.specs.declared.mapping.Mapping.TheVariants.{Text, Writable, Fixed}
 use Rattle.cache_layout.specs.Places.{mapping_of, is_in, is_same, share, room_of, segments_room, images_room, mapping_start, image_start}
 use Rattle.cache_layout.specs.Layouts.{Laid, layout_of}
-use Rattle.cache_layout.specs.Apart.{IsSegment, AreInTurn, move_at, range_in}
+use Rattle.cache_layout.specs.Apart.{IsSegment, AreInTurn, move_at}
 use Rattle.cache_layout.proofs.PlaceLaws.{place_of, mapped_own, move_at-own, range_in-is, are_in_turn, are_within}
 use Rattle.cache_layout.proofs.RoomLaws.{paged-covers}
 use Rattle.cache_layout.proofs.SpaceLaws.{sound_space}
-use Rattle.cache_layout.proofs.SpanLaws.{image_ends}
 use Rattle.ref_rewrite.specs.Following.{FollowIn}
 use Rattle.ref_rewrite.specs.Moving.{new_offset}
 use Rattle.ref_rewrite.specs.Plans.{Plan}
-use Rattle.ref_rewrite.specs.Planned.{leads_to_place, is_chained, data_offset, chained_in, chained_words, plan_of, plan_in, plans_of, span_in}
+use Rattle.ref_rewrite.specs.Planned.{IsLayout, AreSized, leads_to_place, is_chained, data_offset, chained_in, chained_words, plan_of, plans_of}
 use Rattle.ref_rewrite.proofs.FitLaws.{IsAt, IsPlanned, segment_there, offset_is}
 use Rattle.ref_rewrite.proofs.HomeLaws.{section_owned}
 use Rattle.ref_rewrite.proofs.PageLaws.{slice_there, same_mapping}
@@ -254,3 +252,16 @@ words_follow set placed headers given =
     let len : images_room Writable is ≡ (layout_of is).writable.len = sym (ap (λ (r : Span). r.len) (range_in-is is Writable)) in
     let words : List ℕ = flat_map (λ (p : Plan). p.words) (plans_from set placed 0 is) in
     subst (λ (n : ℕ). FollowIn 0 n words) len (subst (λ (n : ℕ). FollowIn n (images_room Writable is) words) (omega arith) (images_follow set placed headers [] is given refl))
+
+-- images have headers of their own
+pub own_sized : (is : List Img) → AreSized (map (λ (i : Img). i.header) is) is
+own_sized is k image found =
+    let lt : k < length is = slice_get_within is k image found in
+    ap (λ (h : List ℕ). length h) (get_or-map (λ (i : Img). i.header) is k image [] lt ∙ ap (λ (i : Img). i.header) (get_or_from_slice_get is k image image found))
+
+pub made_follow : (l : Laid) (set : ImageSet) (placed : List (List PlacedWord)) (plans : List Plan) (headers : List (List ℕ)) → IsLayout l set.images → plans ≡ plans_of l set placed → IsPlanned set placed headers
+    → FollowIn 0 l.writable.len (flat_map (λ (p : Plan). p.words) plans)
+made_follow l set placed plans headers layout made given =
+    let same : plans ≡ plans_of (layout_of set.images) set placed = made ∙ ap (λ (laid : Laid). plans_of laid set placed) layout.is in
+    subst (λ (laid : Laid). FollowIn 0 laid.writable.len (flat_map (λ (p : Plan). p.words) plans)) (sym layout.is)
+    (subst (λ (ps : List Plan). FollowIn 0 (layout_of set.images).writable.len (flat_map (λ (p : Plan). p.words) ps)) (sym same) (words_follow set placed headers given))

@@ -1,17 +1,17 @@
 -- The pointers of an image of a sound set are 8 bytes or more from each other.
-use Rattle.std.proofs.Common.{◌≡◌, ◌≤◌, ◌<◌, ◌⊎◌, ℕ, zero, suc, ◌+◌, ◌-◌, Bool, true, false, not, ◌&&◌, nat_eq, Option, Some, List, [], ◌++◌, length, map, filter, get_or, refl, sym, ap, ◌∙◌, subst, arith, inl, inr}
+use Rattle.std.proofs.Common.{◌≡◌, ◌≤◌, ◌<◌, ◌⊎◌, ℕ, zero, suc, ◌+◌, ◌-◌, Bool, true, false, not, ◌&&◌, nat_eq, Some, List, [], ◌++◌, length, map, filter, get_or, refl, sym, ap, ◌∙◌, subst, arith, inl, inr}
 use Rattle.std.specs.Prelude.{slice_get, pos}
 use Rattle.std.specs.List.{All, AllPairs, Contains}
 use Rattle.std.proofs.lemmas.Bool.{cases_Bool, cases_lt, eqb-true}
 use Rattle.std.proofs.lemmas.Bool.Decides.{nat_tests}
-use Rattle.std.proofs.lemmas.List.{get_or-map, get_or_default, length-map}
+use Rattle.std.proofs.lemmas.List.{get_or-map, length-map}
 use Rattle.std.proofs.lemmas.List.Elements.{All-append, All-map, All-filter, All-same, Contains-append_left, Contains-append_right}
 use Rattle.std.proofs.lemmas.List.Sorted.{All-permutation}
 use Rattle.macho_image.specs.Records.{Seg, Img}
 use Rattle.macho_image.specs.Order.{is_near, addresses_of}
 use Rattle.macho_image.specs.declared.place.Location.{Location}
 use Rattle.macho_image.specs.Segments.{segments_in}
-use Rattle.rebase_ops.specs.Rebases.{rebases_of, AreRebases}
+use Rattle.rebase_ops.specs.Rebases.{AreRebases}
 use Rattle.rebase_ops.proofs.RebaseLaws.{accepted_rebases}
 use Rattle.bind_ops.specs.Records.{BoundWord}
 use Rattle.bind_ops.specs.Binds.{binds_of, places_of}
@@ -101,9 +101,10 @@ address_at : (bs : List BoundWord) (i x : ℕ) (d : BoundWord) → i < length (a
 address_at bs i x d lt is =
     let one : length (places_of bs) ≡ length bs = length-map bs (λ (b : BoundWord). b.at) in
     let two : length (addresses_of (places_of bs)) ≡ length (places_of bs) = length-map (places_of bs) (λ (l : Location). l.address) in
-    let inside : i < length bs = omega (arith, lt, one, two) in
-    (inside,
-    sym (get_or-map (λ (l : Location). l.address) (places_of bs) i d.at x (omega (arith, inside, one)) ∙ ap (λ (l : Location). l.address) (get_or-map (λ (b : BoundWord). b.at) bs i d d.at inside)) ∙ is)
+    let inside : i < length bs = omega (arith, lt, one, two) in (
+      inside,
+      sym (get_or-map (λ (l : Location). l.address) (places_of bs) i d.at x (omega (arith, inside, one)) ∙ ap (λ (l : Location). l.address) (get_or-map (λ (b : BoundWord). b.at) bs i d d.at inside)) ∙ is,
+    )
 
 binds_far : (bs : List BoundWord) → AllPairs (λ (a b : BoundWord). is_near a.at.address b.at.address ≡ false) bs → (d : BoundWord) (x y : ℕ) → Contains (addresses_of (places_of bs)) x → Contains (addresses_of (places_of bs)) y → Far x y
 binds_far bs apart d x y (i, lt, is) (j, lt', is') =
@@ -171,9 +172,11 @@ bind_own : (bs : List BoundWord) → All (λ (b : BoundWord). Contains (addresse
 bind_own bs i d lt =
     let b : BoundWord = get_or bs i d in
     let one : length (places_of bs) ≡ length bs = length-map bs (λ (c : BoundWord). c.at) in
-    let two : length (addresses_of (places_of bs)) ≡ length (places_of bs) = length-map (places_of bs) (λ (l : Location). l.address) in
-    (i, omega (arith, lt, one, two),
-    get_or-map (λ (l : Location). l.address) (places_of bs) i d.at b.at.address (omega (arith, lt, one)) ∙ ap (λ (l : Location). l.address) (get_or-map (λ (c : BoundWord). c.at) bs i d d.at lt))
+    let two : length (addresses_of (places_of bs)) ≡ length (places_of bs) = length-map (places_of bs) (λ (l : Location). l.address) in (
+      i,
+      omega (arith, lt, one, two),
+      get_or-map (λ (l : Location). l.address) (places_of bs) i d.at b.at.address (omega (arith, lt, one)) ∙ ap (λ (l : Location). l.address) (get_or-map (λ (c : BoundWord). c.at) bs i d d.at lt),
+    )
 
 pointers_have : (set : ImageSet) (k : ℕ) (image : Img) (s : StreamLists) → AreStreamsOf image s → slice_get set.streams k ≡ Some s → All (λ (w : PlacedWord). Has image s w.at.address) (pointers_of set k)
 unfolding pointers_of
