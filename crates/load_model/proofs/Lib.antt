@@ -17,3 +17,7 @@ pub mod ShapeLaws
 pub mod SoundSets
 pub mod SumLaws
 pub mod Unbroken
+pub mod WordCases
+pub mod SpreadLaws
+pub mod SpeltLaws
+pub mod LoadedWords
