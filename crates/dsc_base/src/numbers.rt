@@ -41,7 +41,9 @@ pub fn read_u64(bytes: &[u8], at: usize) -> Option<u64>
 /// Writes the little-endian number over the two bytes from `at`, and changes no other byte.
 pub fn put_u16(bytes: &mut [u8], at: usize, value: u16)
     requires { at + 2 ≤ length bytes.old }
-    ensures { bytes.new ≡ put_number 2 bytes.old at value }
+    ensures put { bytes.new ≡ put_number 2 bytes.old at value }
+    // It is read back there.
+    ensures reads_back { number_at 2 bytes.new at ≡ value }
 {
     LittleEndian::write_u16(&mut bytes[at..at + 2], value);
 }
@@ -49,7 +51,9 @@ pub fn put_u16(bytes: &mut [u8], at: usize, value: u16)
 /// Writes the little-endian number over the four bytes from `at`, and changes no other byte.
 pub fn put_u32(bytes: &mut [u8], at: usize, value: u32)
     requires { at + 4 ≤ length bytes.old }
-    ensures { bytes.new ≡ put_number 4 bytes.old at value }
+    ensures put { bytes.new ≡ put_number 4 bytes.old at value }
+    // It is read back there.
+    ensures reads_back { number_at 4 bytes.new at ≡ value }
 {
     LittleEndian::write_u32(&mut bytes[at..at + 4], value);
 }
@@ -57,7 +61,9 @@ pub fn put_u32(bytes: &mut [u8], at: usize, value: u32)
 /// Writes the little-endian number over the eight bytes from `at`, and changes no other byte.
 pub fn put_u64(bytes: &mut [u8], at: usize, value: u64)
     requires { at + 8 ≤ length bytes.old }
-    ensures { bytes.new ≡ put_number 8 bytes.old at value }
+    ensures put { bytes.new ≡ put_number 8 bytes.old at value }
+    // It is read back there.
+    ensures reads_back { number_at 8 bytes.new at ≡ value }
 {
     LittleEndian::write_u64(&mut bytes[at..at + 8], value);
 }

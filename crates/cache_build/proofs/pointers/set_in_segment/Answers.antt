@@ -39,6 +39,6 @@ loop-pointer-preserved c =
     let at = exact_at (length c.args.area.now) c.args.start (w.address - c.args.segment.now.vmaddr) c.saturating_sub.result c.saturating_add-at.result inside (omega arith) far c.saturating_add-at.ensures in
     let is = edit_is c.args.index.now c.args.moves.now c.args.start c.args.segment.now w c.number_at_address-number.result c.saturating_add-at.result c.moved_number.result c.find.result c.number_at_address-number.ensures c.find.ensures c.moved_number.ensures at in
     record {
-      set = set_more edit ws n w c.saturating_add-at.result c.moved_number.result c.args.area.now c.loop-pointer.area c.put_u64.new.bytes c.loop-pointer-test.true own is c.loop-pointer.invariant.set c.put_u64.ensures;
+      set = set_more edit ws n w c.saturating_add-at.result c.moved_number.result c.args.area.now c.loop-pointer.area c.put_u64.new.bytes c.loop-pointer-test.true own is c.loop-pointer.invariant.set c.put_u64.ensures.put;
       words = placed_more edit ws n w c.saturating_add-at.result c.args.words.now.items c.loop-pointer.words.items c.push.new.self.items c.loop-pointer-test.true own at c.loop-pointer.invariant.words c.in_ok-push.ensures.items;
     }

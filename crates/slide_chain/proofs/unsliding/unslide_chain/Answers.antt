@@ -24,7 +24,7 @@ pub loop-step-preserved : goal.loop-step-preserved
 loop-step-preserved c =
     let fits : ChainFits c.args.mask c.args.page c.args.area.now c.args.head = record { room = c.requires.inside; stays = c.requires.stays; apart = c.requires.apart } in
     let put : c.put_u64.new.bytes ≡ put_number 8 c.loop-step.area c.loop-step.at (moved c.args.mask c.args.value_add 0 (number_at 8 c.loop-step.area c.loop-step.at)) =
-    c.put_u64.ensures ∙ ap (put_number 8 c.loop-step.area c.loop-step.at) (c.slid.ensures ∙ ap (moved c.args.mask c.args.value_add 0) c.get_u64-raw.ensures) in
+    c.put_u64.ensures.put ∙ ap (put_number 8 c.loop-step.area c.loop-step.at) (c.slid.ensures ∙ ap (moved c.args.mask c.args.value_add 0) c.get_u64-raw.ensures) in
     let delta : c.delta-delta.result ≡ delta_of c.args.mask (number_at 8 c.loop-step.area c.loop-step.at) = c.delta-delta.ensures ∙ ap (delta_of c.args.mask) c.get_u64-raw.ensures in
     following-more c.args.mask c.args.value_add c.args.page c.args.area.now c.loop-step.area c.put_u64.new.bytes c.args.head c.loop-step.at (c.loop-step.at + c.delta-delta.result)
     (1024 - c.loop-step._step) (1024 - (c.loop-step._step + 1)) (omega arith) fits put (λ none. c.if-delta-eq0.false (delta ∙ none)) (ap (λ (d : ℕ). c.loop-step.at + d) delta) c.loop-step.invariant
@@ -33,7 +33,7 @@ pub returns-then-delta-eq0 : goal.returns-then-delta-eq0
 returns-then-delta-eq0 c =
     let fits : ChainFits c.args.mask c.args.page c.args.area.now c.args.head = record { room = c.requires.inside; stays = c.requires.stays; apart = c.requires.apart } in
     let put : c.put_u64.new.bytes ≡ put_number 8 c.loop-step.area c.loop-step.at (moved c.args.mask c.args.value_add 0 (number_at 8 c.loop-step.area c.loop-step.at)) =
-    c.put_u64.ensures ∙ ap (put_number 8 c.loop-step.area c.loop-step.at) (c.slid.ensures ∙ ap (moved c.args.mask c.args.value_add 0) c.get_u64-raw.ensures) in
+    c.put_u64.ensures.put ∙ ap (put_number 8 c.loop-step.area c.loop-step.at) (c.slid.ensures ∙ ap (moved c.args.mask c.args.value_add 0) c.get_u64-raw.ensures) in
     let delta : c.delta-delta.result ≡ delta_of c.args.mask (number_at 8 c.loop-step.area c.loop-step.at) = c.delta-delta.ensures ∙ ap (delta_of c.args.mask) c.get_u64-raw.ensures in
     following-ends c.args.mask c.args.value_add c.args.page c.args.area.now c.loop-step.area c.put_u64.new.bytes c.args.head c.loop-step.at
     (1024 - c.loop-step._step) (1023 - c.loop-step._step) (omega arith) fits put (sym delta ∙ c.if-delta-eq0.true) c.loop-step.invariant

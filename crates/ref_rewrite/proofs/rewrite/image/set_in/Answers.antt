@@ -10,7 +10,7 @@ returns-then-edit-eq4 c =
     let within : lies_in c.args.span c.args.edit.at c.args.edit.width ≡ true =
     ap (λ (n : ℕ). lies_in c.args.span c.args.edit.at n) (sym c.from.ensures) ∙ (sym c.lies_in.ensures ∙ c.if-lies_in.true) in
     let four : c.args.edit.width ≡ 4 = c.if-edit-eq4.true in
-    c.put_u32.ensures
+    c.put_u32.ensures.put
     ∙ (ap (λ (w : ℕ). put_number w c.args.area.now (c.args.edit.at - c.args.span.at) c.args.edit.value) (sym four)
     ∙ sym (edit_within c.args.span c.args.edit c.args.area.now within))
 
@@ -19,7 +19,7 @@ returns-else-edit-eq4 c =
     let within : lies_in c.args.span c.args.edit.at c.args.edit.width ≡ true =
     ap (λ (n : ℕ). lies_in c.args.span c.args.edit.at n) (sym c.from.ensures) ∙ (sym c.lies_in.ensures ∙ c.if-lies_in.true) in
     let eight : c.args.edit.width ≡ 8 = elim c.requires.width [ inl four ↦ absurd (c.if-edit-eq4.false four) | inr is ↦ is ] in
-    c.put_u64.ensures
+    c.put_u64.ensures.put
     ∙ (ap (λ (w : ℕ). put_number w c.args.area.now (c.args.edit.at - c.args.span.at) c.args.edit.value) (sym eight)
     ∙ sym (edit_within c.args.span c.args.edit c.args.area.now within))
 
