@@ -15,3 +15,6 @@ mod streams;
 mod tables;
 
 pub use merging::merge;
+
+#[cfg(test)]
+mod tests;

@@ -1,0 +1,260 @@
+// The linkedit of one small dylib, and of two that share their names.
+ghost use Rattle.std.specs.Prelude.{◌≡◌, ◌<◌, ◌≤◌, None, length, map, All, IfOk, OnOk, IfSome};
+ghost use Rattle.nlist_table.specs.Kept.{AreTables};
+ghost use Rattle.cache_layout.specs.Layouts.{layout_of, layout_break};
+ghost use Rattle.prebind.specs.Agree.{HaveExportsInside};
+ghost use Rattle.prebind.specs.Sets.{lists_of, streams_break, IsSoundSet};
+ghost use Rattle.prebind.specs.Steps.{set_of};
+ghost use Rattle.linkedit_merge.specs.Conditions.{HaveTables};
+
+use super::*;
+use cache_layout::{Layout, lay_out};
+use dep_closure::link_set;
+use dsc_base::put_u32;
+use macho_edit::LinkSpots;
+use macho_image::{Form, Image, read_image};
+use nlist_table::{Tables, read_tables};
+use prebind::{ImageStreams, Set, check_exports, read_streams};
+use std::alloc::Global;
+use std::test::*;
+
+// The numbers of four bytes in a dylib of 0xa000 bytes, each with its place; all others are 0. Its text
+// segment has one section, and its linkedit the symbols `_a` at 0x800 and `_b` at 0x900.
+const DYLIB: [(usize, u32); 63] = [
+    (0x0, 0xfeedfacf),
+    (0x4, 0x1000007),
+    (0x8, 0x3),
+    (0xc, 0x6),
+    (0x10, 0x5),
+    (0x14, 0x170),
+    (0x18, 0x80),
+    (0x20, 0x19),
+    (0x24, 0x98),
+    (0x28, 0x45545f5f),
+    (0x2c, 0x5458),
+    (0x40, 0x1000),
+    (0x50, 0x1000),
+    (0x58, 0x5),
+    (0x5c, 0x5),
+    (0x60, 0x1),
+    (0x68, 0x65745f5f),
+    (0x6c, 0x7478),
+    (0x78, 0x45545f5f),
+    (0x7c, 0x5458),
+    (0x88, 0x400),
+    (0x90, 0x800),
+    (0x98, 0x400),
+    (0xb8, 0x19),
+    (0xbc, 0x48),
+    (0xc0, 0x494c5f5f),
+    (0xc4, 0x44454b4e),
+    (0xc8, 0x5449),
+    (0xd0, 0x1000),
+    (0xd8, 0x9000),
+    (0xe0, 0x1000),
+    (0xe8, 0x9000),
+    (0xf0, 0x1),
+    (0xf4, 0x1),
+    (0x100, 0xd),
+    (0x104, 0x28),
+    (0x108, 0x18),
+    (0x110, 0x10000),
+    (0x114, 0x10000),
+    (0x118, 0x642e732f),
+    (0x11c, 0x62696c79),
+    (0x128, 0x2),
+    (0x12c, 0x18),
+    (0x130, 0x1000),
+    (0x140, 0xb),
+    (0x144, 0x50),
+    (0x134, 0x2),
+    (0x138, 0x1020),
+    (0x13c, 0x7),
+    (0x148, 0x0),
+    (0x14c, 0x1),
+    (0x150, 0x1),
+    (0x154, 0x1),
+    (0x158, 0x2),
+    (0x15c, 0x0),
+    (0x1000, 0x1),
+    (0x1004, 0x10e),
+    (0x1008, 0x800),
+    (0x1010, 0x4),
+    (0x1014, 0x10f),
+    (0x1018, 0x900),
+    (0x1020, 0x615f00),
+    (0x1024, 0x625f),
+];
+
+// Linkedits at 0x3000 and 0x4000, by their numbers of four bytes from the start, and the place and size of the pool.
+const ONE: [u32; 8] = [1, 0x10e, 0x20001800, 0x7fff, 4, 0x10f, 0x20001900, 0x7fff];
+
+const TWO: [u32; 16] = [
+    1, 0x10e, 0x20001800, 0x7fff, 4, 0x10f, 0x20001900, 0x7fff, 1, 0x10e, 0x20002800, 0x7fff, 4,
+    0x10f, 0x20002900, 0x7fff,
+];
+
+const NAMES: [u8; 7] = *b"\0_a\0_b\0";
+
+const CASES: [(&[u32], &[u32], (u64, u64)); 2] = [
+    (&[0x642e732f], &ONE, (0x3020, 7)),
+    (&[0x642e732f, 0x642e742f], &TWO, (0x4040, 7)),
+];
+
+fn put_all(file: &mut [u8], numbers: &[(usize, u32)]) {
+    for (place, value) in numbers {
+        if *place < file.len() && file.len() - *place >= 4 {
+            put_u32(file, *place, *value);
+        }
+    }
+}
+
+// A dylib whose install name begins with these four letters.
+fn file_of(alloc: Global, letters: u32) -> Result<Vec<u8>, Fail> {
+    let mut file = vec![in alloc; 0u8; 0xa000]?;
+    put_all(&mut file, &DYLIB);
+    put_all(&mut file, &[(0x118, letters)]);
+    Ok(file)
+}
+
+fn images_of(alloc: Global, files: &[Vec<u8>]) -> Result<Vec<Image<'_>>, Fail> {
+    let mut images = Vec::new(alloc);
+    for file in files {
+        let image = read_image(alloc, file, 0, Form::Standalone)
+            .ok()
+            .ok_or("the dylib is read")?;
+        images.push(image)?;
+    }
+    Ok(images)
+}
+
+fn streams_in<'a>(alloc: Global, image: &Image<'a>) -> Result<ImageStreams<'a>, Fail>
+    ensures lists { IfOk result (λ s. s ≡ lists_of image.now) }
+    ensures unbroken { OnOk result (streams_break image.now ≡ None) }
+{
+    match read_streams(alloc, image) {
+        Ok((streams, _)) => Ok(streams),
+        Err(_) => Err("the streams are read")?,
+    }
+}
+
+fn streams_of<'a>(alloc: Global, images: &[Image<'a>]) -> Result<Vec<ImageStreams<'a>>, Fail>
+    ensures lists { IfOk result (λ v. v.items ≡ map lists_of images.now) }
+    ensures unbroken { OnOk result (All (λ i. streams_break i ≡ None) images.now) }
+{
+    let mut streams = Vec::new(alloc);
+    for image in images {
+        let read = streams_in(alloc, image)?;
+        streams.push(read)?;
+    }
+    Ok(streams)
+}
+
+fn tables_in<'a>(alloc: Global, image: &Image<'a>) -> Result<Tables<'a>, Fail>
+    ensures { IfOk result (AreTables (length image.now.sections)) }
+{
+    match read_tables(alloc, image) {
+        Ok(tables) => Ok(tables),
+        Err(_) => Err("the tables are read")?,
+    }
+}
+
+fn tables_of<'a>(alloc: Global, images: &[Image<'a>]) -> Result<Vec<Tables<'a>>, Fail>
+    ensures { IfOk result (λ v. HaveTables images.now v.items) }
+{
+    let mut tables = Vec::new(alloc);
+    for image in images {
+        let read = tables_in(alloc, image)?;
+        tables.push(read)?;
+    }
+    Ok(tables)
+}
+
+// The layout of images that have short names.
+fn laid_out(alloc: Global, images: &[Image<'_>]) -> Result<Layout, Fail>
+    ensures layout { IfOk result (λ l. l ≡ layout_of images.now) }
+    ensures fits { OnOk result (layout_break images.now ≡ None) }
+{
+    if images.len() > 4096 || !images.iter().all(|i| i.install_name.len() <= 1024) {
+        return Err("the names are short")?;
+    }
+    match lay_out(alloc, images) {
+        Ok(layout) => Ok(layout),
+        Err(_) => Err("the images are laid out")?,
+    }
+}
+
+fn exports_inside(alloc: Global, set: &Set<'_, '_>) -> Result<(), Fail>
+    requires { IsSoundSet (set_of set.now) }
+    ensures { OnOk result (HaveExportsInside (set_of set.now)) }
+{
+    for image in 0..set.images.len() {
+        match check_exports(alloc, set, image as u32) {
+            Ok(()) => {}
+            Err(_) => return Err("the exports are inside")?,
+        }
+    }
+    Ok(())
+}
+
+fn merged_of(
+    alloc: Global,
+    set: &Set<'_, '_>,
+    tables: &[Tables<'_>],
+    layout: &Layout,
+) -> Result<(Vec<u8>, Vec<LinkSpots>), Fail>
+    requires sound { IsSoundSet (set_of set.now) }
+    requires tables { HaveTables set.now.images.now tables.now }
+    requires layout { layout.now ≡ layout_of set.now.images.now }
+    requires fits { layout_break set.now.images.now ≡ None }
+{
+    exports_inside(alloc, set)?;
+    match merge(alloc, set, tables, layout, 0x28) {
+        Ok(merged) => Ok(merged),
+        Err(_) => Err("the linkedit is merged")?,
+    }
+}
+
+fn linkedit_of(alloc: Global, files: &[Vec<u8>]) -> Result<(Vec<u8>, Vec<LinkSpots>), Fail> {
+    let images = images_of(alloc, files)?;
+    let streams = streams_of(alloc, &images)?;
+    let tables = tables_of(alloc, &images)?;
+    let layout = laid_out(alloc, &images)?;
+    if images.len() > 4096 {
+        return Err("few images")?;
+    }
+    match link_set(alloc, &images) {
+        Ok(links) => {
+            let set = Set {
+                images: &images,
+                streams: &streams,
+                links: &links,
+            };
+            merged_of(alloc, &set, &tables, &layout)
+        }
+        Err(_) => Err("the set is linked")?,
+    }
+}
+
+#[test]
+fn small_linkedits(rt: HostRuntime) -> Result<(), Fail> {
+    let alloc = rt.alloc();
+    for (letters, numbers, (at, len)) in CASES {
+        let mut files = Vec::new(alloc);
+        for name in letters {
+            files.push(file_of(alloc, *name)?)?;
+        }
+        let mut wanted = Vec::new(alloc);
+        for number in numbers {
+            wanted.extend_from_slice(&number.to_le_bytes())?;
+        }
+        wanted.extend_from_slice(&NAMES)?;
+        let (bytes, spots) = linkedit_of(alloc, &files)?;
+        assert_eq!(rt; bytes.as_slice(), wanted.as_slice());
+        assert_eq!(rt; spots.len(), letters.len());
+        for spot in &spots {
+            assert_eq!(rt; (spot.strings.at, spot.strings.len), (at, len));
+        }
+    }
+    Ok(())
+}
