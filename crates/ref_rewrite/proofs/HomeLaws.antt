@@ -14,7 +14,7 @@ use Rattle.macho_image.specs.Rules.{is_well_shaped, is_linkedit, is_linkedit_seg
 use Rattle.macho_image.specs.Breaks.{unread, IsSound}
 use Rattle.cache_layout.proofs.SoundLaws.{sound_rules, shape_parts, both, load-of, segment_none, sound_linkedit}
 
-not_false : (b : Bool) → not b ≡ false → b ≡ true
+pub not_false : (b : Bool) → not b ≡ false → b ≡ true
 not_false true e = refl
 not_false false e = absurd (cc)
 
@@ -63,7 +63,7 @@ bytes_fit image sound g s lt at =
     omega (arith, bytes_filed image sound g s lt at, ap (λ (t : Seg). t.filesize) command.3, ap (λ (t : Seg). t.vmsize) command.3, shaped.filled)
 
 -- the header is in the first segment
-good_first : (size : ℕ) (ls : List SegmentLoad) (l : SegmentLoad) → misplaced size ls ≡ None → 0 < length ls → l ≡ get_or ls 0 l → is_good_text size l ≡ true
+pub good_first : (size : ℕ) (ls : List SegmentLoad) (l : SegmentLoad) → misplaced size ls ≡ None → 0 < length ls → l ≡ get_or ls 0 l → is_good_text size l ≡ true
 good_first size [] l none some at = absurd (omega arith)
 good_first size (k ∷ ls) l none some at = ap (is_good_text size) at ∙ (wanted (is_good_text size k) k.at (misplaced_behind ls) none).0
 
@@ -133,7 +133,7 @@ in_load k j u [] got = absurd (cc)
 in_load k zero u (x ∷ xs) got = (ap (λ (v : Section). v.segment) (sym (same_Some (section_of k x) u got)), omega arith)
 in_load k (suc j) u (x ∷ xs) got = ((in_load k j u xs got).0, omega arith)
 
-one_of_two : (us vs : List Section) (j : ℕ) (u : Section) → slice_get (us ++ vs) j ≡ Some u → (slice_get us j ≡ Some u) ⊎ ((i : ℕ) × (slice_get vs i ≡ Some u))
+pub one_of_two : (us vs : List Section) (j : ℕ) (u : Section) → slice_get (us ++ vs) j ≡ Some u → (slice_get us j ≡ Some u) ⊎ ((i : ℕ) × (slice_get vs i ≡ Some u))
 one_of_two [] vs j u got = inr (j, got)
 one_of_two (v ∷ us) vs zero u got = inl got
 one_of_two (v ∷ us) vs (suc j) u got = one_of_two us vs j u got

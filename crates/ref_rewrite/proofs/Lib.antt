@@ -5,6 +5,7 @@ pub mod EditFits
 pub mod FitLaws
 pub mod FollowingLaws
 pub mod FollowsLaws
+pub mod HeaderLaws
 pub mod HomeLaws
 pub mod JoinedLaws
 pub mod MappingLaws

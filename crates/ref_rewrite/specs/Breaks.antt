@@ -22,7 +22,8 @@ use Rattle.cache_layout.specs.Layouts.{Laid}
 use Rattle.cache_layout.specs.Apart.{move_at}
 use Rattle.ref_rewrite.specs.Moving.{can_lead}
 
--- a reference of a kind for whose new number there are no bytes, in image k
+-- ---- rules 151 and 152: references
+
 abbrev pub is_delta : RefKind → Bool
 is_delta Delta32 = true
 is_delta kind = false
@@ -31,9 +32,11 @@ abbrev pub is_offset : RefKind → Bool
 is_offset ImageOff32 = true
 is_offset kind = false
 
+-- a reference of some kinds without bytes for its new number, in image k
 abbrev pub is_out_of_range : (RefKind → Bool) → Laid → ℕ → List Section → List Seg → Reference → Bool
 is_out_of_range kinds l k sections segments r = kinds r.kind && not (can_lead l k segments (reference_word k sections segments r))
 
+-- the least index of one
 abbrev pub out_of_range : (RefKind → Bool) → Laid → ImageSet → ℕ → Option ℕ
 out_of_range kinds l set k =
     position (is_out_of_range kinds l k (sections_in (slice_get set.images k)) (segments_at set.images k)) (streams_at set k).references
@@ -46,7 +49,7 @@ delta_break l set k = broken rules.DeltaOutOfRange (out_of_range is_delta l set 
 unfoldable pub offset_break : Laid → ImageSet → ℕ → Option Site
 offset_break l set k = broken rules.OffsetOutOfRange (out_of_range is_offset l set k)
 
--- rule 153: a bound word that leads to a place below the region's start or behind the end of the read-only segments
+-- ---- rule 153: a bound word that leads to a place below the region's start or behind the end of the read-only segments
 abbrev pub is_beyond : Laid → ℕ → Bool
 is_beyond l address = nat_lt address region_start || nat_lt (region_start + (l.fixed.at + l.fixed.len)) address
 
@@ -57,7 +60,7 @@ leads_beyond l (Constant c) = false
 unfoldable pub bound_break : Laid → ImageSet → ℕ → Option Site
 bound_break l set k = broken rules.BoundOutOfRange (position (λ (w : PlacedWord). leads_beyond l w.target) (bound_words set k))
 
--- the first that image k breaks, and the first of all images
+-- ---- the first that image k breaks, and the first of all images
 unfoldable pub image_break : Laid → ImageSet → ℕ → Option Site
 image_break l set k = first_break (delta_break l set k ∷ offset_break l set k ∷ bound_break l set k ∷ [])
 
