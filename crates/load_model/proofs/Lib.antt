@@ -21,3 +21,4 @@ pub mod WordCases
 pub mod SpreadLaws
 pub mod SpeltLaws
 pub mod LoadedWords
+pub mod LoadedReferences
