@@ -22,3 +22,5 @@ pub mod SpreadLaws
 pub mod SpeltLaws
 pub mod LoadedWords
 pub mod LoadedReferences
+pub mod RuledWords
+pub mod WordPlaces
