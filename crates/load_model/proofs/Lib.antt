@@ -24,3 +24,5 @@ pub mod LoadedWords
 pub mod LoadedReferences
 pub mod RuledWords
 pub mod WordPlaces
+pub mod LoadedBytes
+pub mod SoundApart
