@@ -26,3 +26,4 @@ pub mod RuledWords
 pub mod WordPlaces
 pub mod LoadedBytes
 pub mod SoundApart
+pub mod LoadedSides
