@@ -1,7 +1,7 @@
 -- The bytes of a section that are in no word: each is loaded as its segment has it.
-use Rattle.std.proofs.Common.{◌≡◌, ◌≤◌, ◌<◌, ◌⊎◌, ℕ, ◌+◌, ◌-◌, ◌^◌, Bool, true, false, ◌||◌, nat_eq, Option, Some, List, [], ◌∷◌, map, get_or, refl, sym, ap, ◌∙◌, subst, arith, inl, inr}
+use Rattle.std.proofs.Common.{◌≡◌, ◌≤◌, ◌<◌, ◌⊎◌, ℕ, ◌+◌, ◌-◌, Bool, true, ◌||◌, nat_eq, Some, List, [], ◌∷◌, map, get_or, refl, sym, ap, ◌∙◌, subst, arith, inl, inr}
 use Rattle.std.specs.Prelude.{slice_get}
-use Rattle.std.proofs.lemmas.Bool.{cases_Bool, cases_lt, false≢true}
+use Rattle.std.proofs.lemmas.Bool.{cases_Bool, cases_lt}
 use Rattle.std.proofs.lemmas.Bool.Decides.{nat_tests}
 use Rattle.macho_image.specs.Records.{Seg, Img}
 use Rattle.macho_image.specs.Breaks.{IsSound}
@@ -10,7 +10,6 @@ use Rattle.macho_image.specs.declared.section.Section.{Section}
 use Rattle.macho_image.specs.declared.place.Location.{Location}
 use Rattle.macho_image.specs.Places.{wrap, IsWord}
 use Rattle.bind_ops.specs.Records.{BoundWord}
-use Rattle.split_info.specs.declared.reference.RefKind.TheVariants.{Pointer64}
 use Rattle.split_info.proofs.SoundSections.{IsInside, section_inside}
 use Rattle.prebind.specs.declared.resolved.PlacedWord.{PlacedWord}
 use Rattle.prebind.specs.Sets.{StreamLists, ImageSet}
@@ -19,7 +18,7 @@ use Rattle.load_model.specs.Loading.{in_memory, loaded}
 use Rattle.load_model.specs.Corresponds.{InWord}
 use Rattle.load_model.proofs.BoundLaws.{places_of}
 use Rattle.load_model.proofs.RebasedLaws.{IsFree}
-use Rattle.load_model.proofs.WordCases.{IsIn, in_first, in_rest, in_none, covered, bound_word, free_word, bound_in, free_in}
+use Rattle.load_model.proofs.WordCases.{IsIn, in_first, in_rest, covered, free_word, bound_in, free_in}
 use Rattle.load_model.proofs.SpreadLaws.{free_of_binds, free_of_rebases, bound_is_word, rebase_is_word}
 use Rattle.load_model.proofs.LoadedWords.{IsReadImage}
 use Rattle.load_model.proofs.LoadedReferences.{plain_cell}

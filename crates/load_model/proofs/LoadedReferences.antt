@@ -1,8 +1,7 @@
 -- A reference that is no pointer leads to its target once its image is loaded: its bytes are the file's, and both ends of a difference move alike.
-use Rattle.std.proofs.Common.{◌≡◌, ◌≤◌, ◌<◌, ◌⊎◌, ℕ, ◌+◌, ◌-◌, ◌*◌, ◌^◌, Bool, true, false, not, ◌&&◌, ◌||◌, Option, Some, None, List, [], ◌∷◌, length, map, get_or, replicate, refl, sym, ap, ◌∙◌, subst, arith, inl, inr}
-use Rattle.std.specs.Prelude.{slice_get, slice_index, nat_lt}
-use Rattle.std.specs.List.{list_any}
-use Rattle.std.proofs.lemmas.Bool.{cases_lt, cases_Bool, false≢true}
+use Rattle.std.proofs.Common.{◌≡◌, ◌≤◌, ◌<◌, ◌⊎◌, ℕ, ◌+◌, ◌-◌, ◌*◌, ◌^◌, Bool, true, false, not, ◌&&◌, ◌||◌, Option, Some, List, [], ◌∷◌, length, map, get_or, refl, sym, ap, ◌∙◌, subst, arith, inl, inr}
+use Rattle.std.specs.Prelude.{slice_get, slice_index}
+use Rattle.std.proofs.lemmas.Bool.{cases_lt, false≢true}
 use Rattle.std.proofs.lemmas.Bool.Decides.{nat_tests}
 use Rattle.dsc_base.specs.Numbers.{number_at, little_bytes}
 use Rattle.dsc_base.proofs.NumberLaws.{number_at-same, number_at-lt}
@@ -13,7 +12,7 @@ use Rattle.macho_image.specs.Breaks.{IsSound}
 use Rattle.macho_image.specs.declared.place.Location.{Location}
 use Rattle.macho_image.specs.Order.{addresses_of}
 use Rattle.macho_image.specs.Places.{wrap, above}
-use Rattle.macho_image.specs.Segments.{start_of, header_address, number_of, number_within}
+use Rattle.macho_image.specs.Segments.{header_address, number_of, number_within}
 use Rattle.macho_image.proofs.Unbroken.{or_none, broken_none}
 use Rattle.bind_ops.specs.Records.{BoundWord}
 use Rattle.bind_ops.specs.Binds.{places_of as bind_places}
@@ -24,22 +23,20 @@ use Rattle.split_info.specs.References.{width_of}
 use Rattle.split_info.specs.Overlap.{is_pointer, shares, meets_word, strays, overlap_at}
 use Rattle.split_info.specs.Split.{spelled_of, references_of, reading_break, split_break, IsReference, AreReferences}
 use Rattle.split_info.proofs.AcceptLaws.{accepted}
-use Rattle.prebind.specs.declared.resolved.WordTarget.{WordTarget}
 use Rattle.prebind.specs.Sets.{StreamLists, ImageSet, IsSplitRead, AreStreamsOf}
-use Rattle.prebind.specs.Numbers.{extended, led_to, LeadsTo}
+use Rattle.prebind.specs.Numbers.{extended, led_to}
 use Rattle.prebind.specs.Targets.{reference_number, reference_target}
 use Rattle.prebind.specs.Words.{placed_bind}
-use Rattle.load_model.specs.Memory.{Cells, HasNumber}
-use Rattle.load_model.specs.Loading.{in_memory, loaded, loaded_starts, rebased, segment_cells}
+use Rattle.load_model.specs.Loading.{in_memory, loaded, segment_cells}
 use Rattle.load_model.specs.Corresponds.{Leads, loaded_side}
 use Rattle.load_model.proofs.NumberLaws.{address_on}
-use Rattle.load_model.proofs.LoadingLaws.{IsLow, AreApart, low_at, length-in_memory, in_memory-byte, loaded_cell}
+use Rattle.load_model.proofs.LoadingLaws.{IsLow, low_at, length-in_memory, in_memory-byte, loaded_cell}
 use Rattle.load_model.proofs.BoundLaws.{places_of}
 use Rattle.load_model.proofs.RebasedLaws.{IsFree, free_byte, rebases_low}
 use Rattle.load_model.proofs.SpeltLaws.{spelt_byte}
 use Rattle.load_model.proofs.WordCases.{IsIn, in_cases, in_none, in_map, all_in}
 use Rattle.load_model.proofs.SpreadLaws.{free_of_binds, free_of_rebases, rebases_read}
-use Rattle.load_model.proofs.LoadedWords.{IsReadImage, rebased_cells, unbound_cell, slid_start}
+use Rattle.load_model.proofs.LoadedWords.{IsReadImage, unbound_cell, slid_start}
 
 -- each byte of a segment is below 256
 abbrev pub HaveBytes : List Seg → Type 0

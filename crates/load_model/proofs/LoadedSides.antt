@@ -1,5 +1,5 @@
 -- An image of a sound set, once it is loaded: each word stands in a section and leads to its target, and each other byte of a section is its segment's.
-use Rattle.std.proofs.Common.{◌≡◌, ◌<◌, ℕ, ◌+◌, Some, None, List, subst}
+use Rattle.std.proofs.Common.{◌≡◌, ◌<◌, ℕ, ◌+◌, Some, None, subst}
 use Rattle.std.specs.Prelude.{slice_get}
 use Rattle.macho_image.specs.Records.{Img}
 use Rattle.macho_image.specs.Breaks.{IsSound}

@@ -1,5 +1,5 @@
 -- What the rules on where values lead say of a rebase that isn't bound, and each word of a sound set leads to its target once its image is loaded.
-use Rattle.std.proofs.Common.{◌≡◌, ◌≤◌, ◌<◌, ◌⊎◌, ℕ, Bool, true, false, not, ◌&&◌, cond, Option, Some, None, List, length, get_or, refl, sym, ap, ap₂, ◌∙◌, subst, arith, inl, inr}
+use Rattle.std.proofs.Common.{◌≡◌, ◌≤◌, ◌<◌, ℕ, Bool, true, false, not, ◌&&◌, cond, Option, Some, None, List, length, refl, sym, ap₂, ◌∙◌, subst, arith, inl, inr}
 use Rattle.std.specs.Prelude.{nat_lt, slice_get, option_map}
 use Rattle.std.specs.List.{position, position_or_len}
 use Rattle.std.proofs.lemmas.Bool.Decides.{nat_tests}
@@ -20,7 +20,7 @@ use Rattle.prebind.specs.Words.{Word, is_bound, streams_in, words_of}
 use Rattle.prebind.specs.WordRules.{breaks_135, breaks_136, rebases_broken, symbol_break, linkedit_pointer_break, stray_pointer_break, place_break}
 use Rattle.load_model.specs.Corresponds.{IsWordOf, Leads, loaded_side}
 use Rattle.load_model.proofs.LoadingLaws.{AreApart}
-use Rattle.load_model.proofs.WordCases.{IsIn, IsImageOf, IsBound, IsRebased, IsOther, word_cases}
+use Rattle.load_model.proofs.WordCases.{IsIn, IsImageOf, word_cases}
 use Rattle.load_model.proofs.LoadedWords.{IsReadImage, bound_leads, free_leads}
 use Rattle.load_model.proofs.LoadedReferences.{HaveBytes, reference_leads}
 

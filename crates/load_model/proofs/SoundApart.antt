@@ -1,20 +1,19 @@
 -- The segments of a sound image keep apart and lie low, as loading wants them.
-use Rattle.std.proofs.Common.{◌≡◌, ◌≤◌, ◌<◌, ℕ, ◌+◌, Bool, true, false, not, Option, Some, None, List, [], ◌∷◌, length, map, sym, ap, ◌∙◌, arith, inl, inr, if◌then◌else◌, nat_lt}
+use Rattle.std.proofs.Common.{◌≡◌, ◌≤◌, ℕ, ◌+◌, Bool, true, false, not, Option, Some, None, List, [], ◌∷◌, length, map, sym, ap, ◌∙◌, arith, if◌then◌else◌, nat_lt}
 use Rattle.std.specs.Prelude.{find, option_map}
 use Rattle.std.specs.List.{AllByRecursion}
-use Rattle.std.proofs.lemmas.Bool.{cases_Bool, cases_lt, false≢true}
+use Rattle.std.proofs.lemmas.Bool.{false≢true}
 use Rattle.std.proofs.lemmas.Bool.Decides.{nat_tests}
 use Rattle.dsc_base.specs.Refusals.{least}
 use Rattle.macho_image.specs.Records.{Img, Seg, SegmentLoad}
 use Rattle.macho_image.specs.Macho.{header_size, loads_of, segment_loads, segment_with}
 use Rattle.macho_image.specs.Rules.{first_segment, is_well_shaped, first_crossing, misplaced}
 use Rattle.macho_image.specs.Breaks.{unread, IsSound}
-use Rattle.macho_image.specs.Segments.{contains}
 use Rattle.macho_image.proofs.Unbroken.{least_none_both}
 use Rattle.macho_image.proofs.SegmentLaws.{IsApart, contains_yes}
 use Rattle.macho_image.proofs.SegmentLaws as segments
 use Rattle.macho_image.proofs.SoundSegments.{segment_shape, segments_keep_apart, segments_low}
-use Rattle.load_model.proofs.LoadingLaws.{KeepApart, IsLow, AreApartFrom, AreApart}
+use Rattle.load_model.proofs.LoadingLaws.{KeepApart, AreApartFrom, AreApart}
 
 keep_apart : (s t : Seg) → IsApart s t → KeepApart s t
 keep_apart s t apart x low high from to = false≢true (sym (apart x (contains_yes s x low high)) ∙ contains_yes t x from to)

@@ -1,5 +1,5 @@
 -- Each word of an image stands in one of its sections, and an address of a section is in no other one.
-use Rattle.std.proofs.Common.{◌≡◌, ◌≤◌, ◌<◌, ◌⊎◌, ℕ, zero, suc, ◌+◌, ◌-◌, Bool, true, false, Option, Some, None, List, length, get_or, refl, sym, ap, ◌∙◌, subst, arith, inl, inr, nat_eq}
+use Rattle.std.proofs.Common.{◌≡◌, ◌≤◌, ◌<◌, ℕ, ◌+◌, ◌-◌, true, Option, Some, None, List, get_or, refl, sym, ap, ◌∙◌, subst, arith, inl, inr, nat_eq}
 use Rattle.std.specs.Prelude.{slice_get, option_map, unwrap_or}
 use Rattle.std.specs.List.{position}
 use Rattle.std.proofs.lemmas.Bool.{cases_lt, ne_eqb, cond-false, false≢true}
@@ -15,8 +15,6 @@ use Rattle.macho_image.specs.Places.{holds, section_around, numbered_section, Is
 use Rattle.macho_image.proofs.SectionLaws.{IsHeld, held, sections_in_order}
 use Rattle.macho_image.proofs.SegmentLaws.{inside_here}
 use Rattle.macho_image.proofs.SoundSegments.{segments_keep_apart}
-use Rattle.split_info.specs.declared.reference.RefKind.TheVariants.{Pointer64}
-use Rattle.split_info.specs.declared.reference.RefKind.{RefKind}
 use Rattle.split_info.specs.declared.reference.Reference.{Reference}
 use Rattle.split_info.specs.References.{width_of}
 use Rattle.split_info.specs.Split.{IsReference}
@@ -24,7 +22,7 @@ use Rattle.split_info.proofs.SoundSections.{IsInside, section_inside}
 use Rattle.prebind.specs.Sets.{StreamLists, ImageSet}
 use Rattle.prebind.specs.Words.{Word, reference_location, words_of}
 use Rattle.load_model.specs.Corresponds.{IsWordOf}
-use Rattle.load_model.proofs.WordCases.{IsIn, IsBound, IsRebased, IsOther, word_cases}
+use Rattle.load_model.proofs.WordCases.{IsIn, word_cases}
 use Rattle.load_model.proofs.SpreadLaws.{bound_is_word, rebase_is_word}
 use Rattle.load_model.proofs.LoadedWords.{IsReadImage}
 use Rattle.load_model.proofs.LoadedReferences.{reference_accepted}
