@@ -1,6 +1,6 @@
 -- What binding leaves in memory: each bound word has the number that leads to its target, and each other byte is as before.
 use Rattle.std.proofs.Common.{◌≡◌, ◌≤◌, ◌<◌, ◌⊎◌, ℕ, zero, suc, ◌+◌, ◌^◌, List, [], ◌∷◌, map, refl, ap, ◌∙◌, sym, subst, arith, inl, inr}
-use Rattle.std.specs.Prelude.{Option, Some, slice_get}
+use Rattle.std.specs.Prelude.{Some, slice_get}
 use Rattle.macho_image.specs.Places.{wrap}
 use Rattle.split_info.specs.declared.reference.RefKind.TheVariants.{Pointer64}
 use Rattle.slide_chain.specs.Making.{AllBelow}

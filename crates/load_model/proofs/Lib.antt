@@ -21,3 +21,9 @@ pub mod WordCases
 pub mod SpreadLaws
 pub mod SpeltLaws
 pub mod LoadedWords
+pub mod LoadedReferences
+pub mod RuledWords
+pub mod WordPlaces
+pub mod LoadedBytes
+pub mod SoundApart
+pub mod LoadedSides

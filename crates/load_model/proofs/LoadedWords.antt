@@ -1,14 +1,13 @@
 -- Each word of an image that is loaded leads to its target: bound words, and rebases that aren't bound.
-use Rattle.std.proofs.Common.{◌≡◌, ◌≤◌, ◌<◌, ℕ, ◌+◌, ◌-◌, ◌^◌, Bool, true, false, not, ◌&&◌, Option, Some, None, List, map, refl, sym, ap, ap₂, ◌∙◌, subst, arith, inl, inr, if◌then◌else◌}
+use Rattle.std.proofs.Common.{◌≡◌, ◌≤◌, ◌<◌, ℕ, ◌+◌, ◌^◌, false, Option, Some, None, List, map, refl, sym, ap, ap₂, ◌∙◌, subst, arith, inl, inr}
 use Rattle.std.specs.Prelude.{slice_get}
 use Rattle.std.proofs.lemmas.Bool.{cond-false}
-use Rattle.std.proofs.lemmas.Option.{slice_get-map}
 use Rattle.macho_image.specs.Records.{Seg, Img}
 use Rattle.macho_image.specs.declared.place.Location.{Location}
 use Rattle.macho_image.specs.declared.places.segment_index.Inside.{Inside}
 use Rattle.macho_image.specs.Order.{addresses_of}
 use Rattle.macho_image.specs.Places.{wrap, above}
-use Rattle.macho_image.specs.Segments.{start_of, header_address, segments_in, value_of, inside}
+use Rattle.macho_image.specs.Segments.{start_of, segments_in, value_of, inside}
 use Rattle.macho_image.proofs.SegmentLaws.{inside_some}
 use Rattle.bind_ops.specs.Records.{BoundWord}
 use Rattle.split_info.specs.declared.reference.RefKind.TheVariants.{Pointer64}
@@ -32,7 +31,7 @@ use Rattle.load_model.proofs.BoundLaws.{places_of}
 use Rattle.load_model.proofs.RebasedLaws as rebase
 use Rattle.load_model.proofs.RebasedLaws.{IsFree}
 use Rattle.load_model.proofs.WordCases.{IsIn, in_map, IsImageOf}
-use Rattle.load_model.proofs.SpreadLaws.{free_of_binds, binds_spread, bound_is_word, rebases_read, rebase_is_word, word_low, binds_low, free_far}
+use Rattle.load_model.proofs.SpreadLaws.{free_of_binds, binds_spread, rebases_read, rebase_is_word, word_low, binds_low, free_far}
 
 -- an image of a set whose streams were read, and whose segments are apart
 pub record IsReadImage (set : ImageSet) (k : ℕ) (i : Img) (s : StreamLists) : Type 0 where

@@ -1,19 +1,18 @@
 -- What a set's streams say of the words of an image: no two of its bound words share a byte, and a rebase that isn't bound shares none with one that is.
-use Rattle.std.proofs.Common.{◌≡◌, ◌≤◌, ◌<◌, ◌⊎◌, ℕ, zero, suc, ◌+◌, ◌^◌, Bool, true, false, not, ◌&&◌, ◌||◌, nat_eq, Option, Some, List, [], ◌∷◌, ◌++◌, map, length, get_or, refl, sym, ap, ◌∙◌, subst, arith, inl, inr, Contains}
+use Rattle.std.proofs.Common.{◌≡◌, ◌≤◌, ◌<◌, ◌⊎◌, ℕ, suc, ◌+◌, ◌^◌, Bool, true, false, not, ◌&&◌, ◌||◌, nat_eq, Option, Some, List, [], ◌∷◌, ◌++◌, map, length, get_or, refl, sym, ap, ◌∙◌, subst, arith, inl, inr, Contains}
 use Rattle.std.specs.Prelude.{slice_get, option_map}
-use Rattle.std.specs.List.{All, AllPairs}
+use Rattle.std.specs.List.{AllPairs}
 use Rattle.std.proofs.lemmas.Bool.{cases_Bool, cases_lt, false≢true}
 use Rattle.std.proofs.lemmas.Bool.Decides.{nat_tests}
-use Rattle.std.proofs.lemmas.List.{map-append}
 use Rattle.std.proofs.lemmas.Option.{slice_get-map, slice_get_within, get_or_from_slice_get}
-use Rattle.macho_image.specs.Records.{Seg, Img}
+use Rattle.macho_image.specs.Records.{Img}
 use Rattle.macho_image.specs.declared.place.Location.{Location}
 use Rattle.macho_image.specs.Order.{is_near, addresses_of}
 use Rattle.macho_image.specs.Places.{IsWord}
 use Rattle.rebase_ops.specs.Rebases.{AreRebases}
 use Rattle.rebase_ops.proofs.RebaseLaws.{accepted_rebases}
 use Rattle.bind_ops.specs.Records.{BoundWord}
-use Rattle.bind_ops.specs.Binds.{binds_of, AreBinds, places_of as bind_places}
+use Rattle.bind_ops.specs.Binds.{binds_of, places_of as bind_places}
 use Rattle.bind_ops.specs.Clash.{is_skew}
 use Rattle.bind_ops.specs.declared.kind.StreamKind.TheVariants.{Bind, Lazy}
 use Rattle.bind_ops.proofs.BindLaws.{accepted_binds}

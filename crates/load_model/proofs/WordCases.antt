@@ -1,5 +1,5 @@
 -- The words of an image of a set, one by one: those that are bound, the rebases that aren't, and the references that are no pointers.
-use Rattle.std.proofs.Common.{◌≡◌, ◌⊎◌, ℕ, zero, suc, Bool, true, false, not, if◌then◌else◌, Option, Some, None, List, [], ◌∷◌, ◌++◌, map, refl, sym, ap, ap₂, ◌∙◌, subst, inl, inr}
+use Rattle.std.proofs.Common.{◌≡◌, ◌⊎◌, ℕ, zero, suc, Bool, true, false, not, Option, Some, List, [], ◌∷◌, ◌++◌, map, refl, sym, ap, ap₂, ◌∙◌, subst, inl, inr}
 use Rattle.std.specs.Prelude.{filter, slice_get}
 use Rattle.std.specs.List.{All}
 use Rattle.std.proofs.lemmas.Bool.{cond-true, cond-false, cases_Bool}
@@ -120,8 +120,8 @@ pub record IsImageOf (set : ImageSet) (k : ℕ) (i : Img) (s : StreamLists) : Ty
   pub image_is : slice_get set.images k ≡ Some i
   pub streams_are : slice_get set.streams k ≡ Some s
 
-abbrev pub bound_word : ImageSet → ℕ → BoundWord → Word
-bound_word set k b = pointer_word (placed_bind set k b)
+abbrev pub bind_word : ImageSet → ℕ → BoundWord → Word
+bind_word set k b = pointer_word (placed_bind set k b)
 
 abbrev pub free_word : ℕ → Img → StreamLists → Location → Word
 free_word k i s l = pointer_word (rebased_word k i.segments (pointer_at s.references) l)
@@ -146,7 +146,7 @@ word_in (v ∷ vs) w (inr later) = in_rest v vs w (word_in vs w later)
 pub record IsBound (set : ImageSet) (k : ℕ) (s : StreamLists) (w : Word) : Type 0 where
   pub bind : BoundWord
   pub there : IsIn s.binds bind
-  pub is : w ≡ bound_word set k bind
+  pub is : w ≡ bind_word set k bind
 
 pub record IsRebased (k : ℕ) (i : Img) (s : StreamLists) (w : Word) : Type 0 where
   pub place : Location
@@ -196,11 +196,11 @@ covered (v ∷ vs) w number offset u there covers = elim (in_cases v vs w there)
   | inr later ↦ inr (covered vs w number offset u later covers)
 ]
 
-pub bound_in : (set : ImageSet) (k : ℕ) (i : Img) (s : StreamLists) (b : BoundWord) → IsImageOf set k i s → IsIn s.binds b → IsIn (words_of set k) (bound_word set k b)
+pub bound_in : (set : ImageSet) (k : ℕ) (i : Img) (s : StreamLists) (b : BoundWord) → IsImageOf set k i s → IsIn s.binds b → IsIn (words_of set k) (bind_word set k b)
 bound_in set k i s b of there =
     let pointers : List PlacedWord = all_pointers set k i.segments s in
-    subst (λ (ws : List Word). IsIn ws (bound_word set k b)) (sym (words_are set k i s of))
-    (in_left (map pointer_word pointers) (map (other_word k i) (filter is_no_pointer s.references)) (bound_word set k b)
+    subst (λ (ws : List Word). IsIn ws (bind_word set k b)) (sym (words_are set k i s of))
+    (in_left (map pointer_word pointers) (map (other_word k i) (filter is_no_pointer s.references)) (bind_word set k b)
     (in_map pointer_word pointers (placed_bind set k b)
     (in_left (map (placed_bind set k) s.binds) (rebased_words k i.segments (is_bound s.binds) (pointer_at s.references) s.rebases) (placed_bind set k b) (in_map (placed_bind set k) s.binds b there))))
 
