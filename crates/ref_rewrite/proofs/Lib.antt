@@ -8,6 +8,7 @@ pub mod FollowsLaws
 pub mod HeaderLaws
 pub mod HomeLaws
 pub mod JoinedLaws
+pub mod LeadLaws
 pub mod MappingLaws
 pub mod PageLaws
 pub mod PlacedLaws
