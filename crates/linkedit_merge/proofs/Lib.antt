@@ -14,3 +14,4 @@ pub mod TableLaws
 pub mod ReadLaws
 pub mod Rows
 pub mod LeadLaws
+pub mod StartLaws
