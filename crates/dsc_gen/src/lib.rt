@@ -1,0 +1,13 @@
+//! Trial inputs from a number: dylibs with deltas, pointers and links, whose bytes a generator of random
+//! numbers decides.
+#![tactic(auto)]
+
+mod commands;
+mod contents;
+mod draws;
+mod shape;
+mod split;
+mod spots;
+mod streams;
+
+pub use shape::Shape;
