@@ -2,7 +2,8 @@
 use Rattle.std.proofs.Common.{◌≡◌, ◌≤◌, ◌<◌, ℕ, zero, suc, ◌+◌, ◌-◌, List, [], ◌∷◌, ◌++◌, length, refl, sym, ap, ap₂, ◌∙◌, arith}
 use Rattle.rand_pcg.specs.Lcg.{Lcg}
 use Rattle.rand_pcg.specs.Pcg.{pcg32}
-use Rattle.dsc_gen.specs.Draws.{words, after}
+use Rattle.dsc_gen.specs.declared.shape.Shape.{Shape}
+use Rattle.dsc_gen.specs.Draws.{words, after, drawn, IsDraw, code_words, at_targets, at_pointers, at_exports, at_symbols}
 use Rattle.dsc_gen.proofs.ListingLaws.{made_more, made_all}
 
 pub words_more : (n i w : ℕ) (g next : Lcg) (done new whole : List ℕ) → i < n → done ++ words (n - i) g ≡ whole → (w, next) ≡ pcg32 g → new ≡ done ++ w ∷ [] → new ++ words (n - (i + 1)) next ≡ whole
@@ -29,3 +30,13 @@ pub length-words : (n : ℕ) (g : Lcg) → length (words n g) ≡ n
 unfolding words
 length-words zero g = refl
 length-words (suc n) g = ap suc (length-words n (pcg32 g).1)
+
+pub drawn_whole : (shape : Shape) (g : Lcg) → IsDraw shape (drawn shape g)
+unfolding drawn
+drawn_whole shape g = record {
+  code = length-words (code_words shape) g;
+  targets = length-words shape.pointers (at_targets shape g);
+  pointers = length-words shape.pointers (at_pointers shape g);
+  exports = length-words 8 (at_exports shape g);
+  symbols = length-words shape.links (at_symbols shape g);
+}

@@ -72,7 +72,7 @@ sum_put f d (e ∷ es) = elim (cases_Bool (is_before d e)) as (λ _. sum_by f (p
       omega (arith, here, rest, all)
 ]
 
-sum_in_order : (f : Delta → ℕ) (ds : List Delta) → sum_by f (in_order ds) ≡ sum_by f ds
+pub sum_in_order : (f : Delta → ℕ) (ds : List Delta) → sum_by f (in_order ds) ≡ sum_by f ds
 sum_in_order f [] = refl
 sum_in_order f (d ∷ ds) =
     let here = sum_put f d (in_order ds) in

@@ -1,6 +1,7 @@
 -- Words as bytes, one after the other, and edits in their order.
-use Rattle.std.proofs.Common.{◌≡◌, ◌≤◌, ◌<◌, ℕ, suc, ◌+◌, ◌-◌, ◌*◌, ◌%◌, List, [], ◌∷◌, ◌++◌, drop, length, get_or, refl, ap, ◌∙◌, arith}
+use Rattle.std.proofs.Common.{◌≡◌, ◌≤◌, ◌<◌, ℕ, suc, ◌+◌, ◌-◌, ◌*◌, ◌%◌, List, [], ◌∷◌, ◌++◌, drop, length, get_or, refl, ap, ◌∙◌, arith, length-append}
 use Rattle.dsc_base.specs.Numbers.{little_bytes, put_number}
+use Rattle.dsc_base.proofs.NumberLaws.{length-little_bytes}
 use Rattle.dsc_base.specs.Edits.{put_all}
 use Rattle.export_trie.specs.declared.export.Export.{Export}
 use Rattle.export_trie.specs.declared.export.Target.TheVariants.{Offset}
@@ -67,3 +68,12 @@ listed_rebases n i done new whole lt so_far is =
 pub all_rebases : (n i : ℕ) (done new : List ℕ) → n ≤ i → done ++ rebases_from i (n - i) ≡ 0x11 ∷ rebases_from 0 n → new ≡ done ++ 0 ∷ [] → new ≡ rebase_stream n
 unfolding rebases_from rebase_stream
 all_rebases n i done new le so_far is = let none : n - i ≡ 0 = omega arith in is ∙ ap (λ (l : List ℕ). l ++ 0 ∷ []) (made_all done _ _ so_far (ap (λ (m : ℕ). rebases_from i m) none))
+
+pub words_bytes_length : (ws : List ℕ) → length (words_bytes ws) ≡ 4 * length ws
+unfolding words_bytes
+words_bytes_length [] = refl
+words_bytes_length (w ∷ ws) =
+    let all = length-append (little_bytes 4 w) (words_bytes ws) in
+    let one = length-little_bytes 4 w in
+    let rest = words_bytes_length ws in
+    omega (arith, all, one, rest)

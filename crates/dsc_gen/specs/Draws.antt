@@ -1,5 +1,5 @@
 -- Draws: the words of Pcg32 (O'Neill, "PCG: a family of simple fast space-efficient statistically good algorithms for random number generation"), and what those of an image are for.
-use Rattle.std.specs.Prelude.{ℕ, zero, suc, ◌-◌, ◌*◌, ◌/◌, List, [], ◌∷◌}
+use Rattle.std.specs.Prelude.{◌≡◌, length, ℕ, zero, suc, ◌-◌, ◌*◌, ◌/◌, List, [], ◌∷◌}
 use Rattle.rand_pcg.specs.Lcg.{Lcg, started, increment_of}
 use Rattle.rand_pcg.specs.Pcg.{pcg32, multiplier_64}
 use Rattle.dsc_gen.specs.declared.shape.Shape.{Shape}
@@ -68,3 +68,11 @@ drawn shape g = record {
 -- the generator behind them: one word for the symbol of each link
 unfoldable pub behind : Shape → Lcg → Lcg
 behind shape g = after shape.links (at_symbols shape g)
+
+-- as many words as an image takes
+pub record IsDraw (shape : Shape) (draw : Draw) : Type 0 where
+  pub code : length draw.code ≡ code_words shape
+  pub targets : length draw.targets ≡ shape.pointers
+  pub pointers : length draw.pointers ≡ shape.pointers
+  pub exports : length draw.exports ≡ 8
+  pub symbols : length draw.symbols ≡ shape.links

@@ -1,5 +1,5 @@
 -- The files of generated images.
-use Rattle.std.specs.Prelude.{◌≤◌, ℕ, zero, suc, ◌+◌, ◌*◌, ◌/◌, List, [], ◌∷◌, ◌++◌, length}
+use Rattle.std.specs.Prelude.{◌≤◌, ◌<◌, ◌^◌, ℕ, zero, suc, ◌+◌, ◌*◌, ◌/◌, List, [], ◌∷◌, ◌++◌, length}
 use Rattle.rand_pcg.specs.Lcg.{Lcg}
 use Rattle.dsc_base.specs.Region.{padded}
 use Rattle.export_trie.specs.Writing.{trie_bytes}
@@ -65,6 +65,13 @@ spots_of start p = record {
   exports = spot (start + exports_offset p) p.exports;
   split = spot (start + split_offset p) p.split;
 }
+
+-- none of the parts has more bytes than fields of four bytes have room for
+pub record AreSmall (p : Parts) : Type 0 where
+  pub rebase : length p.rebase < 2 ^ 28
+  pub bind : length p.bind < 2 ^ 28
+  pub exports : length p.exports < 2 ^ 28
+  pub split : length p.split < 2 ^ 28
 
 -- with zeros up to a multiple of 8
 abbrev pub aligned : List ℕ → List ℕ

@@ -44,3 +44,36 @@ fn put_pointers(bytes: &mut [u8], size: u32, pointers: &[u32])
         put_u64(bytes, 32 * i, u64::from(value));
     }
 }
+
+/// The section `__text`, where segments have `size` bytes.
+#[tactic(auto, using(crate::proofs::WordLaws::words_bytes_length), unfolding(crate::specs::Contents::text_bytes))]
+pub(crate) fn text_section(
+    alloc: Global,
+    size: u32,
+    code: &[u32],
+    targets: &[u32],
+) -> Result<Vec<u8>, NoMemory>
+    requires size { 4096 ≤ size }
+    requires small { size ≤ 1_048_576 }
+    requires inside { 2048 + 16 * length targets.now ≤ size }
+    requires whole { size ≤ 2048 + 4 * length code.now }
+    ensures { IfOk result (λ v. v.items ≡ spec.text_bytes size code.now targets.now) }
+{
+    let mut out = Vec::with_capacity(alloc, 4 * code.len())?;
+    put_words(&mut out, code)?;
+    put_deltas(&mut out, size, targets);
+    Ok(out)
+}
+
+/// The section `__data`, which has `size` bytes.
+#[tactic(auto, unfolding(crate::specs::Contents::data_bytes))]
+pub(crate) fn data_section(alloc: Global, size: u32, pointers: &[u32]) -> Result<Vec<u8>, NoMemory>
+    requires size { 4096 ≤ size }
+    requires small { size ≤ 1_048_576 }
+    requires whole { 32 * length pointers.now ≤ size }
+    ensures { IfOk result (λ v. v.items ≡ spec.data_bytes size pointers.now) }
+{
+    let mut out = vec![in alloc; 0u8; size as usize]?;
+    put_pointers(&mut out, size, pointers);
+    Ok(out)
+}

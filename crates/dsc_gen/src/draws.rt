@@ -59,12 +59,23 @@ fn words(alloc: Global, generator: &mut Lcg64Xsh32, count: u32) -> Result<Vec<u3
 }
 
 /// The words of the image that comes next.
-#[tactic(auto, unfolding(crate::specs::Draws::drawn, crate::specs::Draws::behind))]
 pub(crate) fn draw_image(
     alloc: Global,
     generator: &mut Lcg64Xsh32,
     shape: &Shape,
 ) -> Result<Draw, NoMemory>
+    requires { IsShape shape.now }
+    ensures drawn { IfOk result (λ d. d ≡ spec.drawn shape.now generator.old) }
+    ensures after { OnOk result (generator.new ≡ spec.behind shape.now generator.old) }
+    ensures whole { IfOk result (λ d. spec.IsDraw shape.now d) }
+{
+    let draw = draw_words(alloc, generator, shape)?;
+    Ok(draw)
+}
+
+/// The words, by what they decide.
+#[tactic(auto, unfolding(crate::specs::Draws::drawn, crate::specs::Draws::behind))]
+fn draw_words(alloc: Global, generator: &mut Lcg64Xsh32, shape: &Shape) -> Result<Draw, NoMemory>
     requires { IsShape shape.now }
     ensures drawn { IfOk result (λ d. d ≡ spec.drawn shape.now generator.old) }
     ensures after { OnOk result (generator.new ≡ spec.behind shape.now generator.old) }

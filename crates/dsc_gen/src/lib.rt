@@ -5,9 +5,12 @@
 mod commands;
 mod contents;
 mod draws;
+mod file;
+mod files;
 mod shape;
 mod split;
 mod spots;
 mod streams;
 
+pub use files::generate;
 pub use shape::Shape;
