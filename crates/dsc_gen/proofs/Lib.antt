@@ -1,0 +1,9 @@
+mod CommandLaws
+mod DrawLaws
+mod ExportLaws
+mod FileLaws
+mod ListingLaws
+mod OrderLaws
+mod SmallLaws
+mod SplitLaws
+mod WordLaws
