@@ -7,3 +7,4 @@ mod OrderLaws
 mod SmallLaws
 mod SplitLaws
 mod WordLaws
+mod WrittenLaws

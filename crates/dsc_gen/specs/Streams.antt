@@ -1,6 +1,9 @@
 -- The streams of the linkedit but for the split-segment information, in the opcodes of mach-o/loader.h.
-use Rattle.std.specs.Prelude.{ℕ, zero, suc, ◌+◌, ◌-◌, ◌%◌, List, [], ◌∷◌, ◌++◌}
+use Rattle.std.specs.Prelude.{◌≡◌, Some, slice_get, ℕ, zero, suc, ◌+◌, ◌-◌, ◌%◌, List, [], ◌∷◌, ◌++◌}
 use Rattle.dsc_base.specs.Uleb.{uleb_bytes}
+use Rattle.macho_image.specs.Records.{Img, Seg}
+use Rattle.macho_image.specs.declared.place.Location.{Location}
+use Rattle.rebase_ops.specs.Writing.{rebase_bytes}
 use Rattle.export_trie.specs.declared.export.Export.{Export}
 use Rattle.export_trie.specs.declared.export.Target.TheVariants.{Offset}
 use Rattle.dsc_gen.specs.Draws.{text_start}
@@ -18,6 +21,15 @@ rebases_from i (suc more) = rebase_opcodes i ++ rebases_from (suc i) more
 -- SET_TYPE_IMM with the pointer type, the pointers, and DONE
 unfoldable pub rebase_stream : ℕ → List ℕ
 rebase_stream pointers = 0x11 ∷ (rebases_from 0 pointers ++ 0 ∷ [])
+
+-- so many pointers from pointer i on, as locations of the data, which is segment 1, in section 2, and begins at an address
+abbrev pub pointers_from : ℕ → ℕ → ℕ → List Location
+pointers_from start i zero = []
+pointers_from start i (suc more) = record { segment = 1; section = 2; address = start + pointer_place i } ∷ pointers_from start (suc i) more
+
+-- what the rebase writer makes of the pointers of an image with this data segment
+abbrev pub IsWritten : ℕ → List ℕ → Type 0
+IsWritten pointers stream = (image : Img) (area : Seg) → slice_get image.segments 1 ≡ Some area → stream ≡ rebase_bytes image (pointers_from area.vmaddr 0 pointers)
 
 -- the name `_s` and a digit
 abbrev pub symbol_name : ℕ → List ℕ

@@ -14,3 +14,6 @@ mod streams;
 
 pub use files::generate;
 pub use shape::Shape;
+
+#[cfg(test)]
+mod tests;

@@ -30,8 +30,17 @@ const POINTER_STEP: u64 = 32;
 
 /// The rebase stream of so many pointers in the data. No two of them lie side by side, so each is a run of
 /// its own.
-#[tactic(auto, unfolding(crate::specs::Streams::rebase_stream))]
 pub(crate) fn rebase_stream(alloc: Global, pointers: u32) -> Result<Vec<u8>, NoMemory>
+    ensures bytes { IfOk result (λ v. v.items ≡ spec.rebase_stream pointers) }
+    // The rebase writer would write the same.
+    ensures written { IfOk result (λ v. spec.IsWritten pointers v.items) }
+{
+    let stream = rebases(alloc, pointers)?;
+    Ok(stream)
+}
+
+#[tactic(auto, unfolding(crate::specs::Streams::rebase_stream))]
+fn rebases(alloc: Global, pointers: u32) -> Result<Vec<u8>, NoMemory>
     ensures { IfOk result (λ v. v.items ≡ spec.rebase_stream pointers) }
 {
     let mut out = Vec::new(alloc);

@@ -1,9 +1,8 @@
--- Each turn appends the opcodes of one pointer.
-use Rattle.dsc_gen.proofs.WordLaws.{listed_rebases, all_rebases}
+-- The rebase writer would write the same.
+use Rattle.std.proofs.Common.{List, ℕ, sym, subst}
+use Rattle.dsc_gen.specs.Streams.{IsWritten}
+use Rattle.dsc_gen.proofs.WrittenLaws.{stream_written}
 use Rattle.dsc_gen.proofs.streams.rebase_stream.Goals as goal
 
-pub loop-i-preserved : goal.loop-i-preserved
-loop-i-preserved c = listed_rebases c.args.pointers c.loop-i.i _ _ _ c.loop-i-test.true c.loop-i.invariant c.in_ok-put_rebase.ensures
-
-pub returns : goal.returns
-returns c = all_rebases c.args.pointers c.loop-i.i _ _ c.loop-i-test.false c.loop-i.invariant c.in_ok-push-2.ensures.items
+pub returns-clause-written : goal.returns-clause-written
+returns-clause-written c = subst (λ (l : List ℕ). IsWritten c.args.pointers l) (sym c.in_ok-stream.ensures) (stream_written c.args.pointers)
