@@ -1,0 +1,11 @@
+pub mod ExportLaws
+pub mod PartLaws
+pub mod SizeLaws
+pub mod StreamLaws
+pub mod PoolLaws
+pub mod ListLaws
+pub mod ImageLaws
+pub mod ShareLaws
+pub mod MergeLaws
+pub mod SpotLaws
+pub mod SetLaws

@@ -1,0 +1,7 @@
+-- The entries so far.
+use Rattle.std.proofs.Common.{take}
+use Rattle.linkedit_merge.specs.Sizes.{indirect_size, IsSize}
+use Rattle.linkedit_merge.proofs.images.indirect_size.Given as goal
+
+abbrev pub invariant-loop-table : goal.invariant-loop-table
+invariant-loop-table l = IsSize (indirect_size (take l.table-index l.tables)) l.size

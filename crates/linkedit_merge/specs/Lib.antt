@@ -1,0 +1,10 @@
+pub mod Conditions
+pub mod Exports
+pub mod Indices
+pub mod Linkedit
+pub mod Parts
+pub mod Pool
+pub mod Shares
+pub mod Sizes
+pub mod Spots
+pub mod Written
