@@ -8,6 +8,7 @@ pub mod HomeLaws
 pub mod JoinedLaws
 pub mod PlacedLaws
 pub mod PlanLaws
+pub mod ReadLaws
 pub mod ReferenceLaws
 pub mod RewrittenLaws
 mod RunLaws

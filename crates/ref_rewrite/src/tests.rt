@@ -2,6 +2,9 @@
 ghost use Rattle.std.specs.Prelude.{◌≡◌, ◌≤◌, IfOk};
 ghost use Rattle.ref_rewrite.specs.Plans.{Fit, IsSoundPlan};
 
+mod dylibs;
+mod planned;
+
 use super::*;
 use dsc_base::{Gate, NoMemory, Span};
 use std::alloc::Global;
