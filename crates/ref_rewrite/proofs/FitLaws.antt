@@ -89,13 +89,13 @@ own_inside l is k i st placed headers Writable at n inside = inr (inl inside)
 own_inside l is k i st placed headers Fixed at n inside = inr (inr inside)
 
 -- the parts of a plan of image k of a layout
-record IsAt (is : List Img) (k : ℕ) (i : Img) : Type 0 where
-  none : layout_break is ≡ None
-  lt : k < length is
-  at : i ≡ get_or is k i
-  sound : IsSound i
+pub record IsAt (is : List Img) (k : ℕ) (i : Img) : Type 0 where
+  pub none : layout_break is ≡ None
+  pub lt : k < length is
+  pub at : i ≡ get_or is k i
+  pub sound : IsSound i
 
-abbrev Owns : List Img → ℕ → Img → ℕ → ℕ → Type 0
+abbrev pub Owns : List Img → ℕ → Img → ℕ → ℕ → Type 0
 Owns is k i at n = (m : Mapping) × IsInside (span_in m is k i) at n
 
 copy_owned : (is : List Img) (k : ℕ) (i : Img) (p : ℕ × Seg) → IsAt is k i → slice_get i.segments p.0 ≡ Some p.1 → is_copied p ≡ true → Owns is k i (copy_of (layout_of is) k p).at (length (copy_of (layout_of is) k p).bytes)

@@ -1,5 +1,6 @@
 pub mod Breaks
 pub mod Moving
+pub mod Pages
 pub mod Planned
 pub mod Plans
 pub mod Rewritten
