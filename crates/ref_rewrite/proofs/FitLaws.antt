@@ -205,7 +205,7 @@ sound_plan is k i st placed headers at read words long fits =
     }
 
 -- numbered twice is numbered once
-numbered_twice : {X Y Z : Type 0} (f : ℕ → Y → Z) (g : ℕ → X → Y) (xs : List X) → numbered f (numbered g xs) ≡ numbered (λ k x. f k (g k x)) xs
+pub numbered_twice : {X Y Z : Type 0} (f : ℕ → Y → Z) (g : ℕ → X → Y) (xs : List X) → numbered f (numbered g xs) ≡ numbered (λ k x. f k (g k x)) xs
 numbered_twice {X} {Y} {Z} f g xs = from 0 xs
   where
     from : (n : ℕ) (ys : List X) → map (λ (p : ℕ × Y). f p.0 p.1) (enumerate_from n (map (λ (p : ℕ × X). g p.0 p.1) (enumerate_from n ys))) ≡ map (λ (p : ℕ × X). f p.0 (g p.0 p.1)) (enumerate_from n ys)
@@ -247,10 +247,10 @@ pub record IsPlanned (set : ImageSet) (placed : List (List PlacedWord)) (headers
   pub sized : AreSized headers set.images
   pub values : (k : ℕ) (i : Img) → k < length set.images → i ≡ get_or set.images k i → AllFit (plan_in (layout_of set.images) set placed k i).edits
 
-abbrev headed : ImageSet → List (List PlacedWord) → List (List ℕ) → ℕ → Img → Plan
+abbrev pub headed : ImageSet → List (List PlacedWord) → List (List ℕ) → ℕ → Img → Plan
 headed set placed headers k i = with_header headers k (plan_in (layout_of set.images) set placed k i)
 
-each_sound : (set : ImageSet) (placed : List (List PlacedWord)) (headers : List (List ℕ)) → IsPlanned set placed headers → (k : ℕ) (i : Img) → k < length set.images → i ≡ get_or set.images k i → IsSoundPlan (headed set placed headers k i)
+pub each_sound : (set : ImageSet) (placed : List (List PlacedWord)) (headers : List (List ℕ)) → IsPlanned set placed headers → (k : ℕ) (i : Img) → k < length set.images → i ≡ get_or set.images k i → IsSoundPlan (headed set placed headers k i)
 each_sound set placed headers given k i lt at =
     let is : List Img = set.images in
     let image : slice_get is k ≡ Some i = slice_get_read is (length is) k i refl lt at in
@@ -308,15 +308,15 @@ plans_fit set placed headers given =
     }
 
 -- plans that were made, with values that fit
-pub made_fit : (l : Laid) (set : ImageSet) (placed : List (List PlacedWord)) (plans : List Plan) (headers : List (List ℕ)) → IsSoundSet set → AreSplitRead set → IsLayout l set.images → AreAllPlaced set placed → All IsSound set.images
-    → plans ≡ plans_of l set placed → All (λ (p : Plan). AllFit p.edits) plans → AreSized headers set.images → Fit l.text.len l.writable.len l.fixed.len (with_headers headers plans)
+pub made_planned : (l : Laid) (set : ImageSet) (placed : List (List PlacedWord)) (plans : List Plan) (headers : List (List ℕ)) → IsSoundSet set → AreSplitRead set → IsLayout l set.images → AreAllPlaced set placed → All IsSound set.images
+    → plans ≡ plans_of l set placed → All (λ (p : Plan). AllFit p.edits) plans → AreSized headers set.images → IsPlanned set placed headers
 unfolding plans_of
-made_fit l set placed plans headers sound read layout placed_all images made fits sized =
+made_planned l set placed plans headers sound read layout placed_all images made fits sized =
     let is : List Img = set.images in
     let own : Laid = layout_of is in
     let same : plans ≡ plans_of own set placed = made ∙ ap (λ (laid : Laid). plans_of laid set placed) layout.is in
     let fitted : All (λ (p : Plan). AllFit p.edits) (numbered (plan_in own set placed) is) = All-same (λ (p : Plan). AllFit p.edits) (numbered (plan_in own set placed) is) plans (sym same) fits in
-    let given : IsPlanned set placed headers = record {
+    record {
       sound = sound;
       read = read;
       none = layout.fits;
@@ -326,6 +326,11 @@ made_fit l set placed plans headers sound read layout placed_all images made fit
       values = λ k i lt at.
           let d : Plan = plan_in own set placed k i in
           subst (λ (p : Plan). AllFit p.edits) (numbered-get (plan_in own set placed) is k i d lt at) (fitted k d (omega (arith, lt, length-numbered (plan_in own set placed) is)));
-    } in
+    }
+
+pub made_fit : (l : Laid) (set : ImageSet) (placed : List (List PlacedWord)) (plans : List Plan) (headers : List (List ℕ)) → IsLayout l set.images → plans ≡ plans_of l set placed → IsPlanned set placed headers
+    → Fit l.text.len l.writable.len l.fixed.len (with_headers headers plans)
+made_fit l set placed plans headers layout made given =
+    let same : plans ≡ plans_of (layout_of set.images) set placed = made ∙ ap (λ (laid : Laid). plans_of laid set placed) layout.is in
     subst (λ (laid : Laid). Fit laid.text.len laid.writable.len laid.fixed.len (with_headers headers plans)) (sym layout.is)
-    (subst (λ (ps : List Plan). Fit own.text.len own.writable.len own.fixed.len (with_headers headers ps)) (sym same) (plans_fit set placed headers given))
+    (subst (λ (ps : List Plan). Fit (layout_of set.images).text.len (layout_of set.images).writable.len (layout_of set.images).fixed.len (with_headers headers ps)) (sym same) (plans_fit set placed headers given))

@@ -6,6 +6,7 @@ pub mod FitLaws
 pub mod FollowsLaws
 pub mod HomeLaws
 pub mod JoinedLaws
+pub mod MappingLaws
 pub mod PageLaws
 pub mod PlacedLaws
 pub mod PlanLaws

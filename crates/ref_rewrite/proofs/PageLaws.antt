@@ -104,7 +104,7 @@ plain_pages s = padded (paged s.vmsize) s.bytes
 abbrev plain_part : Mapping → ℕ → List Seg → List ℕ
 plain_part m n ss = flat_map (λ (p : ℕ × Seg). part_in m (mapping_of p.1) (plain_pages p.1)) (enumerate_from n ss)
 
-same_mapping : (m n : Mapping) → is_same m n ≡ true → n ≡ m
+pub same_mapping : (m n : Mapping) → is_same m n ≡ true → n ≡ m
 same_mapping Text Text is = refl
 same_mapping Writable Writable is = refl
 same_mapping Fixed Fixed is = refl
@@ -123,7 +123,7 @@ self_same Fixed = refl
 padded_long : (size : ℕ) (bytes : List ℕ) → length bytes ≤ size → length (padded size bytes) ≡ size
 padded_long size bytes le = length-append bytes (replicate (size - length bytes) 0) ∙ omega (arith, le, length-replicate {A = ℕ} (size - length bytes) 0)
 
-lies_yes : (s : Span) (at n : ℕ) → s.at ≤ at → at + n ≤ s.at + s.len → lies_in s at n ≡ true
+pub lies_yes : (s : Span) (at n : ℕ) → s.at ≤ at → at + n ≤ s.at + s.len → lies_in s at n ≡ true
 lies_yes s at n low high = and_from (nat_le s.at at) (nat_le (at + n) (s.at + s.len)) (le-leb s.at at low) (le-leb (at + n) (s.at + s.len) high)
 
 slice_there : (before rest : List Seg) (s : Seg) → slice_get (before ++ s ∷ rest) (length before) ≡ Some s

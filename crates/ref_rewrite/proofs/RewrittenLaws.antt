@@ -81,7 +81,7 @@ parts_inside s (c ∷ cs) =
       | false ↦ λ is. parts_inside s cs
     ] refl
 
-edits_inside : (s : Span) (es : List Edit) → AllInside s.len (edits_in s es)
+pub edits_inside : (s : Span) (es : List Edit) → AllInside s.len (edits_in s es)
 edits_inside s [] = tt
 edits_inside s (e ∷ es) =
     let shift : Edit → Edit = λ x. record { at = x.at - s.at; width = x.width; value = x.value } in
@@ -156,10 +156,10 @@ among_in s x (e ∷ es) within (inr later) =
     elim (lies_in s e.at e.width) as (λ t. IsAmong (shift x) (map shift (cond t (e ∷ rest) rest))) [ true ↦ inr there | false ↦ there ]
 
 -- the bytes of a span before the edits
-laid : Plan → Span → List ℕ
+unfoldable pub laid : Plan → Span → List ℕ
 laid p s = put_parts (parts_in s (p.copies ++ header_of p ∷ [])) (replicate s.len 0)
 
-length-laid : (p : Plan) (s : Span) → length (laid p s) ≡ s.len
+pub length-laid : (p : Plan) (s : Span) → length (laid p s) ≡ s.len
 unfolding laid
 length-laid p s =
     let zeros : length (replicate s.len 0) ≡ s.len = length-replicate {A = ℕ} s.len 0 in

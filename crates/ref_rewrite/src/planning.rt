@@ -4,14 +4,18 @@ ghost use Rattle.std.specs.List.{list_any};
 ghost use Rattle.std.specs.List.Sorted.{IsNonDecreasingBy};
 ghost use Rattle.dsc_base.specs.Refusals.{in_image, Refuses, RefusesSet};
 ghost use Rattle.prebind.specs.Words.{pointer_word, streams_at, pointers_of, ArePlaced};
-ghost use Rattle.dsc_base.specs.Edits.{AllFit};
+ghost use Rattle.dsc_base.specs.Edits.{AllFit, put_all};
 ghost use Rattle.macho_image.specs.Breaks.{IsSound};
 ghost use Rattle.prebind.specs.Sets.{IsSoundSet};
 ghost use Rattle.prebind.specs.Steps.{set_of};
 ghost use Rattle.cache_layout.specs.declared.mapping.Mapping.{Mapping};
 ghost use Rattle.ref_rewrite.specs.Breaks as breaks;
 ghost use Rattle.ref_rewrite.specs.Moving.{edit_of};
+ghost use Rattle.cache_layout.specs.Apart.{range_in};
+ghost use Rattle.cache_layout.specs.Parts.{mapping_part};
+ghost use Rattle.ref_rewrite.specs.Pages.{all_pages, part_of, all_edits};
 ghost use Rattle.ref_rewrite.specs.Plans.{Fit};
+ghost use Rattle.ref_rewrite.specs.Rewritten.{edits_in, joined};
 ghost use Rattle.ref_rewrite.specs.Planned as spec;
 ghost use Rattle.ref_rewrite.specs.Spans.{span_of};
 ghost use Rattle.ref_rewrite.specs.Steps as steps;
@@ -131,6 +135,10 @@ fn plan_at<'a>(
 /// split-segment information, in reading order, to the number that leads to its target where the layout puts
 /// the segments. References are those of `DYLD_CACHE_ADJ_V2` of Apple's published linker and cache builder.
 ///
+/// With a header in each plan that is as long as the image's own, the plans fit the ranges of the layout; and
+/// carried out they leave in each mapping the pages of its segments, with these headers in front of their
+/// images and all edits set.
+///
 /// Refuses, image by image, `DeltaOutOfRange` and `OffsetOutOfRange` with the index of the reference whose new
 /// number has more bytes than its place, and `BoundOutOfRange` with the index of the bind whose word leads
 /// to a place below the shared region or behind the end of its read-only segments. `Memory` says that memory
@@ -147,6 +155,7 @@ pub fn plan<'a>(
     requires placed { spec.AreAllPlaced (set_of set.now) (map (λ v. v.items) placed.now) }
     ensures plans { IfOk result (λ v. v.items ≡ spec.plans_of layout.now (set_of set.now) (map (λ v. v.items) placed.now)) }
     ensures fit { IfOk result (λ v. (headers : List (List ℕ)) → spec.AreSized headers set.now.images.now → Fit layout.now.text.len layout.now.writable.len layout.now.fixed.len (spec.with_headers headers v.items)) }
+    ensures ranges { IfOk result (λ v. (headers : List (List ℕ)) → spec.AreSized headers set.now.images.now → (m : Mapping) → joined (part_of m) (spec.with_headers headers v.items) ≡ put_all (edits_in (range_in layout.now m) (all_edits v.items)) (mapping_part m (all_pages headers set.now.images.now) set.now.images.now)) }
     ensures cause { RefusesSet (breaks.rewrite_break layout.now (set_of set.now)) result }
 {
     let mut parts = Parts::at_start(layout);
