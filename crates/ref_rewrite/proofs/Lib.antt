@@ -3,6 +3,7 @@ pub mod ChainedLaws
 pub mod CopyLaws
 pub mod EditFits
 pub mod FitLaws
+pub mod FollowingLaws
 pub mod FollowsLaws
 pub mod HomeLaws
 pub mod JoinedLaws
@@ -15,5 +16,6 @@ pub mod ReferenceLaws
 pub mod RewrittenLaws
 mod RunLaws
 pub mod SetLaws
+pub mod SpacedLaws
 mod SpanFacts
 mod SpanLaws

@@ -123,15 +123,15 @@ get_there [] rest i = refl
 get_there (b ∷ before) rest i = get_there before rest i
 
 -- image i behind some others
-record IsNext (set : ImageSet) (m : Mapping) (before rest : List Img) (i : Img) : Type 0 where
-  at : IsAt set.images (length before) i
-  start : (span_in m set.images (length before) i).at ≡ image_start set.images before m
-  next : image_start set.images (before ++ i ∷ []) m ≡ image_start set.images before m + segments_room m i.segments
-  ends : image_start set.images (before ++ i ∷ []) m ≤ mapping_start m set.images + images_room m set.images
-  count : length (before ++ i ∷ []) ≡ length before + 1
-  rest_all : set.images ≡ (before ++ i ∷ []) ++ rest
+pub record IsNext (set : ImageSet) (m : Mapping) (before rest : List Img) (i : Img) : Type 0 where
+  pub at : IsAt set.images (length before) i
+  pub start : (span_in m set.images (length before) i).at ≡ image_start set.images before m
+  pub next : image_start set.images (before ++ i ∷ []) m ≡ image_start set.images before m + segments_room m i.segments
+  pub ends : image_start set.images (before ++ i ∷ []) m ≤ mapping_start m set.images + images_room m set.images
+  pub count : length (before ++ i ∷ []) ≡ length before + 1
+  pub rest_all : set.images ≡ (before ++ i ∷ []) ++ rest
 
-next_of : (set : ImageSet) (placed : List (List PlacedWord)) (headers : List (List ℕ)) (m : Mapping) (before rest : List Img) (i : Img) → IsPlanned set placed headers → set.images ≡ before ++ i ∷ rest → IsNext set m before rest i
+pub next_of : (set : ImageSet) (placed : List (List PlacedWord)) (headers : List (List ℕ)) (m : Mapping) (before rest : List Img) (i : Img) → IsPlanned set placed headers → set.images ≡ before ++ i ∷ rest → IsNext set m before rest i
 next_of set placed headers m before rest i given all =
     let is : List Img = set.images in
     let k : ℕ = length before in
@@ -150,7 +150,7 @@ next_of set placed headers m before rest i given all =
       rest_all = all ∙ sym (append_assoc before (i ∷ []) rest);
     }
 
-abbrev plans_from : ImageSet → List (List PlacedWord) → ℕ → List Img → List Plan
+abbrev pub plans_from : ImageSet → List (List PlacedWord) → ℕ → List Img → List Plan
 plans_from set placed n is = map (λ (q : ℕ × Img). plan_in (layout_of set.images) set placed q.0 q.1) (enumerate_from n is)
 
 abbrev headed_from : ImageSet → List (List PlacedWord) → List (List ℕ) → ℕ → List Img → List Plan

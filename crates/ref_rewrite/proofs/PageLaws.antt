@@ -126,7 +126,7 @@ padded_long size bytes le = length-append bytes (replicate (size - length bytes)
 pub lies_yes : (s : Span) (at n : ℕ) → s.at ≤ at → at + n ≤ s.at + s.len → lies_in s at n ≡ true
 lies_yes s at n low high = and_from (nat_le s.at at) (nat_le (at + n) (s.at + s.len)) (le-leb s.at at low) (le-leb (at + n) (s.at + s.len) high)
 
-slice_there : (before rest : List Seg) (s : Seg) → slice_get (before ++ s ∷ rest) (length before) ≡ Some s
+pub slice_there : (before rest : List Seg) (s : Seg) → slice_get (before ++ s ∷ rest) (length before) ≡ Some s
 slice_there [] rest s = refl
 slice_there (b ∷ before) rest s = slice_there before rest s
 

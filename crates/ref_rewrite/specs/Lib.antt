@@ -1,4 +1,5 @@
 pub mod Breaks
+pub mod Following
 pub mod Moving
 pub mod Pages
 pub mod Planned

@@ -1,6 +1,6 @@
 // What is planned for the images of a set.
 ghost use Rattle.std.specs.Prelude.{◌≡◌, ◌++◌, ℕ, List, map, length, Some, slice_get, option_map, IfOk};
-ghost use Rattle.std.specs.List.{list_any};
+ghost use Rattle.std.specs.List.{flat_map, list_any};
 ghost use Rattle.std.specs.List.Sorted.{IsNonDecreasingBy};
 ghost use Rattle.dsc_base.specs.Refusals.{in_image, Refuses, RefusesSet};
 ghost use Rattle.prebind.specs.Words.{pointer_word, streams_at, pointers_of, ArePlaced};
@@ -10,6 +10,7 @@ ghost use Rattle.prebind.specs.Sets.{IsSoundSet};
 ghost use Rattle.prebind.specs.Steps.{set_of};
 ghost use Rattle.cache_layout.specs.declared.mapping.Mapping.{Mapping};
 ghost use Rattle.ref_rewrite.specs.Breaks as breaks;
+ghost use Rattle.ref_rewrite.specs.Following.{FollowIn};
 ghost use Rattle.ref_rewrite.specs.Moving.{edit_of};
 ghost use Rattle.cache_layout.specs.Apart.{range_in};
 ghost use Rattle.cache_layout.specs.Parts.{mapping_part};
@@ -135,6 +136,7 @@ fn plan_at<'a>(
 /// split-segment information, in reading order, to the number that leads to its target where the layout puts
 /// the segments. References are those of `DYLD_CACHE_ADJ_V2` of Apple's published linker and cache builder.
 ///
+/// The words that lead to places follow one another in the data mapping, from image to image.
 /// With a header in each plan that is as long as the image's own, the plans fit the ranges of the layout; and
 /// carried out they leave in each mapping the pages of its segments, with these headers in front of their
 /// images and all edits set.
@@ -154,6 +156,7 @@ pub fn plan<'a>(
     requires layout { spec.IsLayout layout.now set.now.images.now }
     requires placed { spec.AreAllPlaced (set_of set.now) (map (λ v. v.items) placed.now) }
     ensures plans { IfOk result (λ v. v.items ≡ spec.plans_of layout.now (set_of set.now) (map (λ v. v.items) placed.now)) }
+    ensures words { IfOk result (λ v. FollowIn 0 layout.now.writable.len (flat_map (λ p. p.words) v.items)) }
     ensures fit { IfOk result (λ v. (headers : List (List ℕ)) → spec.AreSized headers set.now.images.now → Fit layout.now.text.len layout.now.writable.len layout.now.fixed.len (spec.with_headers headers v.items)) }
     ensures ranges { IfOk result (λ v. (headers : List (List ℕ)) → spec.AreSized headers set.now.images.now → (m : Mapping) → joined (part_of m) (spec.with_headers headers v.items) ≡ put_all (edits_in (range_in layout.now m) (all_edits v.items)) (mapping_part m (all_pages headers set.now.images.now) set.now.images.now)) }
     ensures cause { RefusesSet (breaks.rewrite_break layout.now (set_of set.now)) result }

@@ -16,6 +16,7 @@ use Rattle.cache_layout.proofs.NumberedLaws.{numbered-grown}
 use Rattle.cache_layout.proofs.PlaceLaws.{length-moves}
 use Rattle.ref_rewrite.specs.Planned.{plan_of, plan_in, plans_of}
 use Rattle.ref_rewrite.proofs.FitLaws.{made_planned, made_fit}
+use Rattle.ref_rewrite.proofs.FollowingLaws.{own_sized, made_follow}
 use Rattle.ref_rewrite.proofs.MappingLaws.{made_rewritten}
 use Rattle.ref_rewrite.proofs.SetLaws.{none_before, none_more, none_at_all, refused_at, all_start, ends_low, span_is, ends_behind}
 use Rattle.ref_rewrite.proofs.planning.plan.Goals as goal
@@ -116,3 +117,15 @@ returns-clause-ranges c = λ headers sized m.
     let made : c.loop-number.plans.items ≡ plans_of layout set all = c.loop-number.invariant.made ∙ ap (λ (is : List Img). numbered (plan_in layout set all) is) whole in
     let given = made_planned layout set all c.loop-number.plans.items headers c.requires.sound c.requires.read c.requires.layout c.requires.placed (subst (λ (is : List Img). All IsSound is) whole c.loop-number.invariant.sound) made c.loop-number.invariant.fit sized in
     made_rewritten layout set all c.loop-number.plans.items headers m c.requires.layout made given
+
+pub returns-clause-words : goal.returns-clause-words
+unfolding plans_of
+returns-clause-words c =
+    let layout = c.args.layout.now in
+    let set = set_of c.args.set.now in
+    let all = map (λ (v : Vec PlacedWord Global). v.items) c.args.placed.now in
+    let whole = take_all c.loop-number.number set.images (omega arith) in
+    let made : c.loop-number.plans.items ≡ plans_of layout set all = c.loop-number.invariant.made ∙ ap (λ (is : List Img). numbered (plan_in layout set all) is) whole in
+    let headers = map (λ (i : Img). i.header) set.images in
+    let given = made_planned layout set all c.loop-number.plans.items headers c.requires.sound c.requires.read c.requires.layout c.requires.placed (subst (λ (is : List Img). All IsSound is) whole c.loop-number.invariant.sound) made c.loop-number.invariant.fit (own_sized set.images) in
+    made_follow layout set all c.loop-number.plans.items headers c.requires.layout made given
