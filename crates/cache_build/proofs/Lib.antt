@@ -18,6 +18,7 @@ pub mod OwnWords
 pub mod PartLaws
 pub mod PlacedSets
 pub mod PlacesApart
+pub mod PlanHeaders
 pub mod PointerSets
 pub mod Protections
 pub mod ReadSets
@@ -26,7 +27,9 @@ pub mod SectionLaws
 pub mod SegmentPages
 pub mod SetPointerLaws
 pub mod SetPointers
+pub mod SlideSizes
 pub mod SpanLaws
 pub mod TargetLaws
 pub mod Theorem
+pub mod WholeCaches
 pub mod WholePages
