@@ -9,6 +9,7 @@ pub mod CachedSegments
 pub mod DataBytes
 pub mod ExportLaws
 pub mod FitsLaws
+pub mod GatherLaws
 pub mod HeadFacts
 pub mod HeadLaws
 pub mod LedPointers

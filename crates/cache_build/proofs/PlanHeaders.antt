@@ -1,9 +1,15 @@
 -- Plans that get their headers one after another.
-use Rattle.std.proofs.Common.{◌≡◌, ◌<◌, ℕ, zero, suc, ◌+◌, ◌-◌, List, [], ◌∷◌, ◌++◌, length, take, drop, get_or, refl, sym, ap, ap₂, ◌∙◌, arith, slice_set, append_assoc}
+use Rattle.std.proofs.Common.{◌≡◌, ◌≤◌, ◌<◌, inl, inr, ℕ, zero, suc, ◌+◌, ◌-◌, List, [], ◌∷◌, ◌++◌, length, take, drop, get_or, refl, sym, ap, ap₂, ◌∙◌, arith, slice_set, append_assoc}
 use Rattle.std.proofs.lemmas.List.{drop_more, get_or_default, length-take-le, get_or-append_right}
-use Rattle.cache_layout.proofs.NumberedLaws.{numbered-step, length-numbered}
+use Rattle.std.proofs.lemmas.Bool.{cases_lt}
+use Rattle.std.proofs.lemmas.Option.{slice_get_within, get_or_from_slice_get}
+use Rattle.macho_image.specs.Records.{Img}
+use Rattle.macho_edit.specs.declared.spots.LinkSpots.{LinkSpots}
+use Rattle.cache_layout.specs.Layouts.{Laid}
+use Rattle.cache_layout.proofs.NumberedLaws.{numbered-get, numbered-step, length-numbered}
 use Rattle.ref_rewrite.specs.Plans.{Plan}
-use Rattle.ref_rewrite.specs.Planned.{with_header, with_headers}
+use Rattle.ref_rewrite.specs.Planned.{AreSized, with_header, with_headers}
+use Rattle.cache_build.specs.Cache.{header_of, headers_of}
 
 set_behind : {X : Type 0} (xs ys : List X) (y z : X) (n : ℕ) → length xs ≡ n → slice_set (xs ++ y ∷ ys) n z ≡ xs ++ z ∷ ys
 set_behind [] ys y z zero long = refl
@@ -29,3 +35,27 @@ header_set plans now headers n p q h lt is at own new =
     ∙ (set_behind front rest x q n long
     ∙ (ap (λ (y : Plan). front ++ y ∷ rest) put
     ∙ (sym (append_assoc front (with_header headers n x ∷ []) rest) ∙ ap (λ (l : List Plan). l ++ rest) (sym step))))
+
+-- ---- their sizes
+
+-- the headers of the first images are as long as their own
+abbrev pub AreSizedUpTo : Laid → List LinkSpots → List Img → ℕ → Type 0
+AreSizedUpTo l spots images n = (k : ℕ) (i : Img) → k < n → i ≡ get_or images k i → length (header_of l spots k i) ≡ length i.header
+
+pub sized_none : (l : Laid) (spots : List LinkSpots) (images : List Img) → AreSizedUpTo l spots images 0
+sized_none l spots images k i lt at = absurd (omega (arith, lt))
+
+pub sized_more : (l : Laid) (spots : List LinkSpots) (images : List Img) (n : ℕ) (i : Img) (h : List ℕ) → n < length images → i ≡ get_or images n i → h ≡ header_of l spots n i → length h ≡ length i.header → AreSizedUpTo l spots images n → AreSizedUpTo l spots images (n + 1)
+sized_more l spots images n i h inside at is long before k j lt own = elim (cases_lt k n) [
+  | inl less ↦ before k j less own
+  | inr past ↦
+      let number : n ≡ k = omega (arith, lt, past) in
+      let same : i ≡ j = at ∙ (get_or_default images n i j inside ∙ (ap (λ (m : ℕ). get_or images m j) number ∙ sym own)) in
+      ap₂ (λ (m : ℕ) (x : Img). length (header_of l spots m x)) (sym number) (sym same) ∙ (ap (λ (b : List ℕ). length b) (sym is) ∙ (long ∙ ap (λ (x : Img). length x.header) same))
+]
+
+pub all_sized : (l : Laid) (spots : List LinkSpots) (images : List Img) (n : ℕ) → length images ≤ n → AreSizedUpTo l spots images n → AreSized (headers_of l spots images) images
+all_sized l spots images n all before k i got =
+    let lt : k < length images = slice_get_within images k i got in
+    let at : i ≡ get_or images k i = sym (get_or_from_slice_get images k i i got) in
+    ap (λ (b : List ℕ). length b) (numbered-get (header_of l spots) images k i [] lt at) ∙ before k i (omega (arith, lt, all)) at

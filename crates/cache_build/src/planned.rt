@@ -1,7 +1,7 @@
 // The plans of all images: the words that they chain, and their headers.
 ghost use Rattle.std.specs.Prelude.{◌≡◌, ◌≤◌, ◌<◌, [], length, slice_index_or, OnOk, IfOk};
 ghost use Rattle.std.specs.List.{flat_map};
-ghost use Rattle.ref_rewrite.specs.Planned.{with_headers};
+ghost use Rattle.ref_rewrite.specs.Planned.{AreSized, with_headers};
 ghost use Rattle.macho_edit.specs.Conditions.{CanMove};
 ghost use Rattle.cache_build.specs.Cache.{no_spots, header_of, headers_of};
 ghost use Rattle.cache_build.specs.Filling.{CanMoveEach};
@@ -44,11 +44,13 @@ fn own_header(
     requires moves { number < length layout.now.moves }
     requires places { number < length spots.now }
     requires can { CanMove image.now (slice_index_or layout.now.moves number []) (slice_index_or spots.now number no_spots) }
-    ensures { IfOk result (λ h. h.items ≡ header_of layout.now spots.now number image.now) }
+    ensures header { IfOk result (λ h. h.items ≡ header_of layout.now spots.now number image.now) }
+    ensures size { IfOk result (λ h. length h.items ≡ length image.now.header) }
 {
     cached_header(alloc, image, layout.moves(number), &spots[number as usize])
 }
 
+#[tactic(auto, using(crate::proofs::PlanHeaders::sized_none, crate::proofs::PlanHeaders::all_sized))]
 /// Puts into each plan the header that its image has in the cache.
 pub fn put_headers(
     alloc: Global,
@@ -62,7 +64,8 @@ pub fn put_headers(
     requires moves { length layout.now.moves ≡ length images.now }
     requires places { length spots.now ≡ length images.now }
     requires can { CanMoveEach layout.now spots.now images.now }
-    ensures { OnOk result (plans.new ≡ with_headers (headers_of layout.now spots.now images.now) plans.old) }
+    ensures headers { OnOk result (plans.new ≡ with_headers (headers_of layout.now spots.now images.now) plans.old) }
+    ensures sized { OnOk result (AreSized (headers_of layout.now spots.now images.now) images.now) }
 {
     for (number, image) in images.iter().enumerate() {
         let header = own_header(alloc, image, layout, number as u32, spots)?;
