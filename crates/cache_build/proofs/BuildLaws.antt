@@ -20,7 +20,7 @@ use Rattle.load_model.proofs.AcceptedFiles.{AreAccepted, accepted_files}
 use Rattle.load_model.proofs.PlainLaws.{HasRebasesAlone, rebases_alone}
 use Rattle.load_model.proofs.SoundSets.{each_none, sound_images}
 use Rattle.cache_build.specs.declared.frame.Frame.{Frame}
-use Rattle.cache_build.specs.Places.{span_of, frame_of}
+use Rattle.cache_build.specs.PlainPlaces.{span_of, frame_of}
 use Rattle.cache_build.specs.Breaks.{too_large_at, linkedit_break, set_break}
 use Rattle.cache_build.specs.Fits.{CanAssemble}
 use Rattle.cache_build.specs.Setting.{CanLink}

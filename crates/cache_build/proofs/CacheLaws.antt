@@ -38,9 +38,9 @@ use Rattle.slide_chain.proofs.LinkedLaws.{raised-inside, length-linked_data, sli
 use Rattle.slide_chain.proofs.SixteenLaws.{few_extras, sixteen_accepted}
 use Rattle.slide_chain.proofs.SizeLaws.{info_size-made, info_is}
 use Rattle.load_model.proofs.MappedLaws.{IsThree, slid_data, slid_cache}
-use Rattle.cache_build.specs.Places.{slide_place, slide_size, linkedit_size, span_of}
+use Rattle.cache_build.specs.PlainPlaces.{slide_place, slide_size, linkedit_size, span_of, frame_of}
 use Rattle.cache_build.specs.Head.{entry_of, head_of}
-use Rattle.cache_build.specs.Cache.{headers_of, all_pages, slide_bytes, tail_of, cache_from, cache_of}
+use Rattle.cache_build.specs.PlainCache.{headers_of, all_pages, slide_bytes, tail_of, cache_from, cache_of}
 use Rattle.cache_build.specs.Fits.{CanAssemble}
 use Rattle.cache_build.specs.Pointers.{pointers_of, places, with_pointers}
 use Rattle.cache_build.specs.Setting.{ArePointers}
@@ -56,10 +56,10 @@ sum_paths l n (i ∷ is) =
     ∙ (ap (λ (m : ℕ). length i.install_name + 1 + m) (sum_paths l (n + 1) is) ∙ sym (sum_by-cons path_size i is))
 
 abbrev pub own_head : List Img → Head
-own_head is = head_of (layout_of is) is
+own_head is = head_of (layout_of is) (frame_of (layout_of is)) is
 
 entries_are : (is : List Img) → (own_head is).images ≡ numbered (entry_of (layout_of is)) is
-unfolding head_of
+unfolding head_of frame_of
 entries_are is = refl
 
 -- the head ends in the pages that the layout leaves for it
@@ -128,16 +128,16 @@ address_is is ready k i lt at =
     ∙ ap (λ (e : Entry). e.address) (entry_there is k i lt at))
 
 pub most_is : (is : List Img) → IsReady is → max_slide (cache_of is) ≡ region_size - span_of (layout_of is)
-unfolding head_of
+unfolding head_of frame_of
 most_is is ready = ap max_slide (head_first is) ∙ max_slide_is (own_head is) (behind_head is) (head_fits is ready)
 
 pub mappings_is : (is : List Img) → IsReady is
     → mappings_of (cache_of is) ≡ three_mappings (layout_of is).writable.at (layout_of is).writable.len (span_of (layout_of is) - ((layout_of is).writable.at + (layout_of is).writable.len))
-unfolding head_of
+unfolding head_of frame_of
 mappings_is is ready = ap mappings_of (head_first is) ∙ mappings_are (own_head is) (behind_head is) (head_writable is ready) (head_fits is ready)
 
 slide_there : (is : List Img) → IsReady is → slide_info_bytes (cache_of is) ≡ take (slide_size (layout_of is)) (drop (slide_place (layout_of is)) (cache_of is))
-unfolding head_of
+unfolding head_of frame_of
 slide_there is ready =
     ap slide_info_bytes (head_first is) ∙ (slide_info_bytes_is (own_head is) (behind_head is) (head_fits is ready)
     ∙ ap (λ (c : List ℕ). take (slide_size (layout_of is)) (drop (slide_place (layout_of is)) c)) (sym (head_first is)))

@@ -26,8 +26,8 @@ use Rattle.macho_image.specs.Places.{wrap, above}
 use Rattle.load_model.specs.Mapped.{flat, mapped, cached_image}
 use Rattle.load_model.proofs.LoadingLaws.{IsLow}
 use Rattle.load_model.proofs.MappedLaws.{flat_three, mapped_cell}
-use Rattle.cache_build.specs.Places.{linkedit_place, span_of}
-use Rattle.cache_build.specs.Cache.{spots_at, header_of, pages_of, cache_of}
+use Rattle.cache_build.specs.PlainPlaces.{linkedit_place, span_of}
+use Rattle.cache_build.specs.PlainCache.{spots_at, header_of, pages_of, cache_of}
 use Rattle.cache_build.specs.Fits.{CanAssemble}
 use Rattle.cache_build.proofs.FitsLaws.{no_segment, two_segments}
 use Rattle.cache_build.proofs.HeadFacts.{IsReady, assembles, header_move}

@@ -8,7 +8,7 @@ use Rattle.cache_layout.specs.Layouts.{Laid, layout_of}
 use Rattle.cache_layout.specs.Apart.{IsSegment, move_at}
 use Rattle.cache_layout.specs.Parts.{StandsAt, joined}
 use Rattle.cache_layout.proofs.PartLaws.{are_joined}
-use Rattle.cache_build.specs.Cache.{header_of, pages_of, headers_of, all_pages, tail_of}
+use Rattle.cache_build.specs.PlainCache.{header_of, pages_of, headers_of, all_pages, tail_of}
 use Rattle.cache_build.proofs.HeadFacts.{IsReady}
 use Rattle.cache_build.proofs.WholePages.{pages_are, pages_whole}
 use Rattle.cache_build.proofs.CacheLaws.{own_head, own_pointers, plain_of, plain_joined, head_long}

@@ -13,7 +13,7 @@ use Rattle.cache_layout.specs.Layouts.{layout_of}
 use Rattle.cache_layout.specs.Apart.{IsSegment}
 use Rattle.cache_layout.specs.Parts.{part_in, image_part, mapping_part}
 use Rattle.cache_layout.proofs.SoundLaws.{sound_protection, mapped_protection}
-use Rattle.cache_build.specs.Cache.{header_of, pages_of, headers_of, all_pages}
+use Rattle.cache_build.specs.PlainCache.{header_of, pages_of, headers_of, all_pages}
 use Rattle.cache_build.proofs.HeadFacts.{IsReady}
 use Rattle.cache_build.proofs.Protections.{first_protection}
 use Rattle.cache_build.proofs.SetPointers.{sound_at}

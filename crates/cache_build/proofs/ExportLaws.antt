@@ -8,7 +8,7 @@ use Rattle.export_trie.specs.declared.export.Export.{Export}
 use Rattle.export_trie.specs.Exports.{tree_exports, exports_of}
 use Rattle.export_trie.specs.Order.{trie_break}
 use Rattle.load_model.specs.Corresponds.{SameExports}
-use Rattle.cache_build.specs.Cache.{no_spot, spots_at}
+use Rattle.cache_build.specs.PlainCache.{no_spot, spots_at}
 
 none_named : (command : Option (List ℕ)) (b : List ℕ) → named_by command b no_spot ≡ []
 none_named None b = refl

@@ -24,9 +24,9 @@ use Rattle.cache_layout.proofs.SoundLaws.{sound_rules, shape_parts, both, load-o
 use Rattle.cache_layout.proofs.SpaceLaws.{sound_space}
 use Rattle.cache_layout.proofs.RoomLaws.{paged-covers}
 use Rattle.cache_layout.proofs.PlaceLaws.{length-moves, length-moves-of, are_in_turn, are_within}
-use Rattle.cache_build.specs.Places.{linkedit_place, span_of}
+use Rattle.cache_build.specs.PlainPlaces.{linkedit_place, span_of}
 use Rattle.cache_build.specs.Head.{text_size}
-use Rattle.cache_build.specs.Cache.{spots_at}
+use Rattle.cache_build.specs.PlainCache.{spots_at}
 use Rattle.cache_build.specs.Fits.{HasRoom, Fits, CanMoveAll, CanAssemble}
 
 -- ---- the path

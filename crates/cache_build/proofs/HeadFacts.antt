@@ -22,7 +22,7 @@ use Rattle.cache_layout.proofs.SoundLaws.{sound_linkedit}
 use Rattle.cache_layout.proofs.NumberedLaws.{numbered-get, length-numbered}
 use Rattle.prebind.proofs.SetLaws.{HaveStreams}
 use Rattle.load_model.specs.Mapped.{three_mappings}
-use Rattle.cache_build.specs.Places.{span_of}
+use Rattle.cache_build.specs.PlainPlaces.{span_of, frame_of}
 use Rattle.cache_build.specs.Head.{entry_of, head_of}
 use Rattle.cache_build.specs.Fits.{Fits, CanAssemble}
 use Rattle.cache_build.proofs.ReadSets.{AreLed}
@@ -90,8 +90,8 @@ entries_fit is ready k d lt =
     subst FitsEntry (sym (numbered-get (entry_of l) is k i d within at))
     (record { address = omega (arith, own.2.address, own.2.end, own.2.span); uuid = sound_uuid i sound; text_size = fits.text })
 
-pub head_fits : (is : List Img) → IsReady is → FitsHead (head_of (layout_of is) is)
-unfolding head_of
+pub head_fits : (is : List Img) → IsReady is → FitsHead (head_of (layout_of is) (frame_of (layout_of is)) is)
+unfolding head_of frame_of
 head_fits is ready =
     let l : Laid = layout_of is in
     let can : CanAssemble l is = assembles is ready in
@@ -104,9 +104,9 @@ head_fits is ready =
       max_slide = omega arith;
     }
 
-pub head_writable : (is : List Img) → IsReady is → IsWritable (head_of (layout_of is) is)
-unfolding head_of
+pub head_writable : (is : List Img) → IsReady is → IsWritable (head_of (layout_of is) (frame_of (layout_of is)) is)
+unfolding head_of frame_of
 head_writable is ready =
     let l : Laid = layout_of is in
     let can : CanAssemble l is = assembles is ready in
-    writable_head l is (head_of l is) l.writable.at l.writable.len (span_of l - (l.writable.at + l.writable.len)) ready.few can.images refl refl
+    writable_head l is (head_of l (frame_of l) is) l.writable.at l.writable.len (span_of l - (l.writable.at + l.writable.len)) ready.few can.images refl refl

@@ -28,8 +28,8 @@ use Rattle.load_model.specs.Corresponds.{Leads, mapped_starts, loaded_side, mapp
 use Rattle.load_model.proofs.NumberLaws.{address_on}
 use Rattle.load_model.proofs.RebasedLaws.{rebased_word}
 use Rattle.cache_build.specs.Pointers.{rebases_in, cached_starts, cached_address, pointer_target, pointer_edit}
-use Rattle.cache_build.specs.Places.{span_of}
-use Rattle.cache_build.specs.Cache.{cache_of}
+use Rattle.cache_build.specs.PlainPlaces.{span_of}
+use Rattle.cache_build.specs.PlainCache.{cache_of}
 use Rattle.cache_build.proofs.HeadFacts.{IsReady, assembles}
 use Rattle.cache_build.proofs.SectionLaws.{sound_apart, IsInside, section_inside}
 use Rattle.cache_build.proofs.MovedLaws.{IsMovedSection, moved_section_at, moved_start}

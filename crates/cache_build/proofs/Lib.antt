@@ -9,6 +9,7 @@ pub mod CachedSegments
 pub mod DataBytes
 pub mod ExportLaws
 pub mod FitsLaws
+pub mod GatherLaws
 pub mod HeadFacts
 pub mod HeadLaws
 pub mod LedPointers
@@ -18,6 +19,7 @@ pub mod OwnWords
 pub mod PartLaws
 pub mod PlacedSets
 pub mod PlacesApart
+pub mod PlanHeaders
 pub mod PointerSets
 pub mod Protections
 pub mod ReadSets
@@ -26,7 +28,9 @@ pub mod SectionLaws
 pub mod SegmentPages
 pub mod SetPointerLaws
 pub mod SetPointers
+pub mod SlideSizes
 pub mod SpanLaws
 pub mod TargetLaws
 pub mod Theorem
+pub mod WholeCaches
 pub mod WholePages

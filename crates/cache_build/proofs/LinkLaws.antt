@@ -26,7 +26,7 @@ use Rattle.slide_chain.proofs.SizeLaws.{length-starts}
 use Rattle.slide_chain.specs.Info.{info_bytes}
 use Rattle.dsc_base.specs.Refusals.{in_set, IsRefusal}
 use Rattle.dsc_base.specs.declared.fault.Site.{Site}
-use Rattle.cache_build.specs.Cache.{all_pages, headers_of}
+use Rattle.cache_build.specs.PlainCache.{all_pages, headers_of}
 use Rattle.cache_build.specs.Pointers.{pointers_of, places, with_pointers}
 use Rattle.cache_build.specs.Fits.{HasMoves, CanAssemble}
 use Rattle.cache_build.specs.Setting.{ArePointers, CanChain, CanLink}

@@ -9,7 +9,7 @@ use Rattle.cache_layout.specs.declared.mapping.Mapping.{Mapping}
 use Rattle.cache_layout.specs.Places.{mapping_of, is_in}
 use Rattle.cache_layout.specs.Parts.{part_in, image_part}
 use Rattle.cache_layout.proofs.NumberedLaws.{joined-step, map-push, take-step}
-use Rattle.cache_build.specs.Cache.{pages_of, pages_at, segment_pages, image_pages, all_pages}
+use Rattle.cache_build.specs.PlainCache.{pages_of, pages_at, segment_pages, image_pages, all_pages}
 use Rattle.cache_build.specs.Fits.{AreSized}
 
 -- the parts of the first segments of an image

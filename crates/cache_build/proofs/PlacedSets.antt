@@ -19,8 +19,8 @@ use Rattle.cache_layout.specs.Apart.{IsSegment, IsApart, AreInTurn, move_at, ran
 use Rattle.cache_layout.proofs.PlaceLaws.{length-moves-of, are_in_turn, are_within, are_apart}
 use Rattle.cache_layout.proofs.SoundLaws.{sound_linkedit}
 use Rattle.cache_layout.proofs.RoomLaws.{paged-covers, paged-whole}
-use Rattle.cache_build.specs.Places.{slide_place, slide_size, linkedit_place, span_of}
-use Rattle.cache_build.specs.Cache.{spots_at}
+use Rattle.cache_build.specs.PlainPlaces.{slide_place, slide_size, linkedit_place, span_of}
+use Rattle.cache_build.specs.PlainCache.{spots_at}
 use Rattle.cache_build.proofs.HeadFacts.{IsReady}
 use Rattle.cache_build.proofs.FitsLaws.{two_segments}
 

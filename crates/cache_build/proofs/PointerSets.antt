@@ -19,7 +19,7 @@ use Rattle.load_model.proofs.RebasedLaws.{rebase_words}
 use Rattle.split_info.specs.declared.reference.RefKind.TheVariants.{Pointer64}
 use Rattle.prebind.specs.Numbers.{number_to}
 use Rattle.cache_build.specs.Pointers.{rebases_in, cached_starts, cached_address, data_start, pointer_target, pointer_edit, segment_pointers, image_pointers, pointers_of}
-use Rattle.cache_build.specs.Cache.{headers_of, all_pages}
+use Rattle.cache_build.specs.PlainCache.{headers_of, all_pages}
 use Rattle.cache_build.specs.Setting.{AllLeadToPlaces, ArePointers, CanLink}
 use Rattle.cache_build.proofs.HeadFacts.{IsReady, assembles}
 use Rattle.cache_build.proofs.ReadSets.{Leads, read_sets, lead_sets}

@@ -11,7 +11,7 @@ use Rattle.cache_layout.proofs.PartLaws.{stands_drop}
 use Rattle.cache_layout.proofs.RoomLaws.{paged-covers}
 use Rattle.load_model.specs.Loading.{in_memory}
 use Rattle.load_model.proofs.LoadingLaws.{IsLow}
-use Rattle.cache_build.specs.Cache.{pages_of}
+use Rattle.cache_build.specs.PlainCache.{pages_of}
 
 -- zeros behind bytes
 

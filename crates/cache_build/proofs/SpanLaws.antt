@@ -4,14 +4,14 @@ use Rattle.std.specs.List.{sum_by}
 use Rattle.std.proofs.lemmas.List.{length-map}
 use Rattle.macho_image.specs.Records.{Img}
 use Rattle.cache_header.specs.declared.head.Mapping.{Mapping}
-use Rattle.cache_header.specs.Reading.{mappings_of, span}
+use Rattle.cache_header.specs.Reading.{span}
 use Rattle.cache_layout.specs.Layouts.{Laid, layout_of}
 use Rattle.load_model.specs.Mapped.{three_mappings}
 use Rattle.load_model.specs.Phases.{contents, images_of}
-use Rattle.cache_build.specs.Places.{span_of}
+use Rattle.cache_build.specs.PlainPlaces.{span_of}
 use Rattle.cache_build.specs.Breaks.{set_break}
 use Rattle.cache_build.specs.Built.{built}
-use Rattle.cache_build.specs.Cache.{cache_of}
+use Rattle.cache_build.specs.PlainCache.{cache_of}
 use Rattle.cache_build.specs.Fits.{CanAssemble}
 use Rattle.cache_build.proofs.HeadFacts.{IsReady, assembles}
 use Rattle.cache_build.proofs.CacheLaws.{mappings_is, long_is}

@@ -34,13 +34,13 @@ use Rattle.load_model.specs.Corresponds.{shape_of, loaded_side, mapped_side, InW
 use Rattle.load_model.proofs.PlainLaws.{HasRebasesAlone}
 use Rattle.load_model.proofs.LoadingLaws.{IsLow, low_at}
 use Rattle.load_model.proofs.RebasedLaws.{rebased_other}
-use Rattle.cache_build.specs.Places.{span_of}
+use Rattle.cache_build.specs.PlainPlaces.{span_of}
 use Rattle.load_model.specs.Phases.{contents, images_of, shape_break, files_break}
 use Rattle.load_model.proofs.AcceptedFiles.{accepted_files}
 use Rattle.load_model.proofs.SoundSets.{unbroken_shape, each_none}
 use Rattle.dsc_base.specs.Refusals.{in_each}
 use Rattle.cache_build.specs.Breaks.{linkedit_break, set_break}
-use Rattle.cache_build.specs.Cache.{header_of, pages_of, cache_of}
+use Rattle.cache_build.specs.PlainCache.{header_of, pages_of, cache_of}
 use Rattle.cache_build.specs.Built.{built}
 use Rattle.cache_build.specs.Always.{CorrespondsAlways}
 use Rattle.cache_build.specs.Fits.{CanAssemble}

@@ -16,8 +16,8 @@ use Rattle.cache_layout.specs.Apart.{IsSegment}
 use Rattle.cache_layout.specs.Parts.{AreWholePages}
 use Rattle.cache_layout.proofs.NumberedLaws.{numbered-get}
 use Rattle.load_model.proofs.LoadingLaws.{IsLow, low_at}
-use Rattle.cache_build.specs.Places.{linkedit_place}
-use Rattle.cache_build.specs.Cache.{spots_at, header_of, pages_of, pages_at, image_pages, headers_of, all_pages}
+use Rattle.cache_build.specs.PlainPlaces.{linkedit_place}
+use Rattle.cache_build.specs.PlainCache.{spots_at, header_of, pages_of, pages_at, image_pages, headers_of, all_pages}
 use Rattle.cache_build.proofs.FitsLaws.{sound_begins}
 use Rattle.cache_build.proofs.HeadFacts.{IsReady}
 use Rattle.cache_build.proofs.SectionLaws.{sound_apart}

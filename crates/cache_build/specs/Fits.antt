@@ -4,9 +4,9 @@ use Rattle.macho_image.specs.Records.{Seg, Img}
 use Rattle.macho_edit.specs.Conditions.{CanMove}
 use Rattle.cache_header.specs.Paths.{is_plain_path}
 use Rattle.cache_layout.specs.Layouts.{Laid}
-use Rattle.cache_build.specs.Places.{slide_place, linkedit_place, span_of}
+use Rattle.cache_build.specs.PlainPlaces.{slide_place, linkedit_place, span_of}
 use Rattle.cache_build.specs.Head.{text_size}
-use Rattle.cache_build.specs.Cache.{spots_at}
+use Rattle.cache_build.specs.PlainCache.{spots_at}
 
 -- the text segment has room for the header
 abbrev pub HasRoom : List ℕ → List Seg → Type 0

@@ -1,4 +1,4 @@
--- What the head of a cache says of a set of images and their layout.
+-- What the head of a cache says of a set of images, of their layout and of what stands behind the segments.
 use Rattle.std.specs.Prelude.{ℕ, ◌+◌, ◌-◌, List, [], ◌∷◌, map, slice_index_or}
 use Rattle.dsc_base.specs.Region.{region_size}
 use Rattle.macho_image.specs.Records.{Seg, Img}
@@ -8,7 +8,7 @@ use Rattle.cache_header.specs.Identifier.{identifier_of}
 use Rattle.cache_layout.specs.Places.{numbered}
 use Rattle.cache_layout.specs.Layouts.{Laid}
 use Rattle.load_model.specs.Mapped.{three_mappings}
-use Rattle.cache_build.specs.Places.{slide_place, slide_size, span_of}
+use Rattle.cache_build.specs.declared.frame.Frame.{Frame}
 
 -- the size in memory of the first segment, which is the text segment
 abbrev pub text_size : List Seg → ℕ
@@ -29,11 +29,11 @@ entry_of l k image = record {
 }
 
 -- the text mapping begins with the head, and the linkedit mapping with the read-only segments
-unfoldable pub head_of : Laid → List Img → Head
-head_of l images = record {
-  mappings = three_mappings l.writable.at l.writable.len (span_of l - (l.writable.at + l.writable.len));
+unfoldable pub head_of : Laid → Frame → List Img → Head
+head_of l frame images = record {
+  mappings = three_mappings l.writable.at l.writable.len (frame.span - (l.writable.at + l.writable.len));
   images = numbered (entry_of l) images;
-  slide_info = record { at = slide_place l; len = slide_size l };
+  slide_info = record { at = frame.slide_at; len = frame.slide_size };
   uuid = identifier_of (map (λ (i : Img). i.uuid) images);
-  max_slide = region_size - span_of l;
+  max_slide = region_size - frame.span;
 }

@@ -2,8 +2,12 @@ pub mod Always
 pub mod Breaks
 pub mod Built
 pub mod Cache
+pub mod Edits
+pub mod Filling
 pub mod Fits
 pub mod Head
 pub mod Places
+pub mod PlainCache
+pub mod PlainPlaces
 pub mod Pointers
 pub mod Setting

@@ -1,26 +1,30 @@
--- Where slide information and the merged linkedit stand, behind the segments of a layout, and where a cache ends.
-use Rattle.std.specs.Prelude.{ℕ, ◌+◌, ◌*◌, ◌/◌}
+-- Where slide information and the merged linkedit stand in the file, behind the segments of a layout, and where the cache ends.
+use Rattle.std.specs.Prelude.{ℕ, ◌+◌, List, map}
 use Rattle.dsc_base.specs.Region.{paged}
+use Rattle.macho_image.specs.Records.{Img}
+use Rattle.slide_chain.specs.Info.{info_bytes}
+use Rattle.slide_chain.specs.Making.{info_of}
+use Rattle.nlist_table.specs.Symbols.{tables_of}
+use Rattle.prebind.specs.Sets.{ImageSet}
 use Rattle.cache_layout.specs.Layouts.{Laid}
+use Rattle.linkedit_merge.specs.Shares.{Share, shares_of}
+use Rattle.linkedit_merge.specs.Linkedit.{linkedit_start, linkedit_size}
 use Rattle.cache_build.specs.declared.frame.Frame.{Frame}
+use Rattle.cache_build.specs.Edits.{chained_of}
 
-abbrev pub slide_place : Laid → ℕ
-slide_place l = l.fixed.at + l.fixed.len
+-- the slide information of the data, where the distance to the next word of a chain has so many bits
+abbrev pub slide_bytes : ℕ → Laid → ImageSet → List ℕ
+slide_bytes bits l set = info_bytes (info_of bits l.writable.len (chained_of l set))
 
--- a head of 40 bytes and a start for each page of data
-abbrev pub slide_size : Laid → ℕ
-slide_size l = 40 + 2 * (l.writable.len / 4096)
+-- what each image has in the linkedit
+abbrev pub shares_in : Laid → List Img → List Share
+shares_in l images = shares_of images (map tables_of images) l.moves
 
-abbrev pub linkedit_place : Laid → ℕ
-linkedit_place l = slide_place l + paged (slide_size l)
-
--- the merged linkedit is the string pool with nothing but the empty name
-abbrev pub linkedit_size : ℕ
-linkedit_size = 1
-
-abbrev pub span_of : Laid → ℕ
-span_of l = linkedit_place l + paged linkedit_size
-
--- the same as one value
-unfoldable pub frame_of : Laid → Frame
-frame_of l = record { slide_at = slide_place l; slide_size = slide_size l; linkedit_at = linkedit_place l; span = span_of l }
+-- the segments are followed by so many bytes of slide information and by the linkedit, each in whole pages
+unfoldable pub frame_of : Laid → ℕ → List Share → Frame
+frame_of l slide_size shares = record {
+  slide_at = l.fixed.at + l.fixed.len;
+  slide_size = slide_size;
+  linkedit_at = linkedit_start l slide_size;
+  span = linkedit_start l slide_size + paged (linkedit_size shares);
+}

@@ -16,7 +16,7 @@ use Rattle.cache_layout.specs.declared.mapping.Mapping.TheVariants.{Writable}
 use Rattle.cache_layout.specs.Parts.{mapping_part}
 use Rattle.prebind.specs.declared.resolved.WordTarget.TheVariants.{Place}
 use Rattle.cache_build.specs.Pointers.{rebases_in, word_edit, move_or, moved_number, pointers_inside, pointer_target, pointers_of, places}
-use Rattle.cache_build.specs.Cache.{all_pages, headers_of}
+use Rattle.cache_build.specs.PlainCache.{all_pages, headers_of}
 
 -- a pointer of a segment that begins at a place of the data, by an index of the segments of its image and by their moves
 abbrev pub edit_in : List Entry → List Moved → ℕ → Seg → Location → Edit

@@ -7,9 +7,9 @@ ghost use Rattle.slide_chain.specs.Making.{info_of, linking};
 ghost use Rattle.dsc_base.specs.Edits.{change_all};
 ghost use Rattle.cache_layout.specs.declared.mapping.Mapping.TheVariants.{Writable};
 ghost use Rattle.cache_layout.specs.Parts.{mapping_part};
-ghost use Rattle.cache_build.specs.Places.{frame_of};
+ghost use Rattle.cache_build.specs.PlainPlaces.{frame_of};
 ghost use Rattle.cache_build.specs.Pointers.{pointers_of, places, with_pointers};
-ghost use Rattle.cache_build.specs.Cache.{headers_of, all_pages, cache_from, slide_bytes};
+ghost use Rattle.cache_build.specs.PlainCache.{headers_of, all_pages, cache_from, slide_bytes};
 ghost use Rattle.cache_build.specs.Fits.{AreSized, HasMoves, CanAssemble};
 ghost use Rattle.cache_build.specs.Setting.{AreRead, AllLeadToPlaces, ArePointers, CanChain, CanLink};
 
@@ -116,7 +116,7 @@ fn append_data<R: Threads + Sync>(
 
 /// The cache: head, segments by mapping, slide information and linkedit, each in whole pages. The bytes
 /// are allocated once and filled in order.
-#[tactic(auto, unfolding(crate::specs::Cache::cache_from, crate::specs::Places::frame_of))]
+#[tactic(auto, unfolding(crate::specs::PlainCache::cache_from, crate::specs::PlainPlaces::frame_of))]
 pub fn assemble<R: Threads + Sync, G: Gate>(
     rt: &R,
     alloc: Global,

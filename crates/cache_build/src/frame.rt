@@ -1,6 +1,9 @@
 // Where slide information and the merged linkedit stand, behind the segments.
-ghost use Rattle.std.specs.Prelude.{◌≡◌, ◌≤◌, ◌+◌};
-ghost use Rattle.cache_build.specs.Places.{frame_of, slide_place};
+ghost use Rattle.std.specs.Prelude.{◌≡◌, ◌≤◌, ◌+◌, List};
+ghost use Rattle.linkedit_merge.specs.Shares.{Share};
+ghost use Rattle.linkedit_merge.specs.Linkedit.{linkedit_size as linkedit_size_of};
+ghost use Rattle.cache_build.specs.Places.{frame_of as whole_frame};
+ghost use Rattle.cache_build.specs.PlainPlaces.{frame_of, slide_place};
 
 use cache_layout::Layout;
 use dsc_base::{PAGE, page_up};
@@ -20,7 +23,7 @@ pub struct Frame {
 
 impl Frame {
     /// What stands behind the segments of a layout.
-    #[tactic(auto, unfolding(crate::specs::Places::frame_of))]
+    #[tactic(auto, unfolding(crate::specs::PlainPlaces::frame_of))]
     pub fn behind(layout: &Layout) -> Frame
         requires low { slide_place layout.now ≤ 0x2000_0000 }
         requires little { layout.now.writable.len ≤ 0x2000_0000 }
@@ -35,6 +38,25 @@ impl Frame {
             slide_size,
             linkedit_at,
             span: linkedit_at + page_up(LINKEDIT_SIZE),
+        }
+    }
+
+    /// What stands behind the segments, for slide information and a linkedit of so many bytes.
+    #[tactic(auto, unfolding(crate::specs::Places::frame_of, linkedit_merge::specs::Linkedit::linkedit_start))]
+    pub fn of_sizes(layout: &Layout, slide_size: u64, linkedit_size: u64) -> Frame
+        requires low { layout.now.fixed.at + layout.now.fixed.len ≤ 0x2000_0000 }
+        requires slide { slide_size ≤ 0x2000_0000 }
+        requires linkedit { linkedit_size ≤ 0x2000_0000 }
+        ensures { (shares : List Share) → linkedit_size ≡ linkedit_size_of shares → result ≡ whole_frame layout.now slide_size shares }
+    {
+        let fixed = layout.fixed();
+        let slide_at = fixed.at + fixed.len;
+        let linkedit_at = page_up(slide_at + slide_size);
+        Frame {
+            slide_at,
+            slide_size,
+            linkedit_at,
+            span: linkedit_at + page_up(linkedit_size),
         }
     }
 }

@@ -4,9 +4,8 @@ ghost use Rattle.dsc_base.specs.Region.{region_start};
 ghost use Rattle.cache_header.specs.Spelling.{head_bytes};
 ghost use Rattle.cache_layout.specs.Places.{numbered};
 ghost use Rattle.load_model.specs.Mapped.{three_mappings};
-ghost use Rattle.cache_build.specs.Places.{frame_of};
 ghost use Rattle.cache_build.specs.Head.{text_address, text_size, entry_of, head_of};
-ghost use Rattle.cache_build.specs.Fits.{CanAssemble};
+ghost use Rattle.cache_build.specs.Fits.{Fits};
 
 use crate::frame::Frame;
 use cache_header::{CacheHead, Mapping, TableImage, cache_uuid, write_cache_head};
@@ -113,17 +112,20 @@ fn identifiers(alloc: Global, images: &[Image<'_>]) -> Result<Vec<[u8; 16]>, NoM
     Ok(identifiers)
 }
 
-/// The head of the cache of these images, as bytes.
-#[tactic(auto, unfolding(crate::specs::Head::head_of, crate::specs::Places::frame_of))]
+/// The head of the cache of these images, as bytes, where its slide information and its end are told.
+#[tactic(auto, unfolding(crate::specs::Head::head_of))]
 pub fn cache_head(
     alloc: Global,
     images: &[Image<'_>],
     layout: &Layout,
     frame: &Frame,
 ) -> Result<Vec<u8>, NoMemory>
-    requires assembles { CanAssemble layout.now images.now }
-    requires frame { frame.now ≡ frame_of layout.now }
-    ensures { IfOk result (λ v. v.items ≡ head_bytes (head_of layout.now images.now)) }
+    requires few { length images.now ≤ 4096 }
+    requires one_each { length layout.now.moves ≡ length images.now }
+    requires images { All Fits images.now }
+    requires within { layout.now.writable.at + layout.now.writable.len ≤ frame.now.span }
+    requires small { frame.now.span ≤ 0x2000_0000 }
+    ensures { IfOk result (λ v. v.items ≡ head_bytes (head_of layout.now frame.now images.now)) }
 {
     let head = CacheHead {
         mappings: mappings(alloc, layout.writable(), frame.span)?,

@@ -1,7 +1,7 @@
 // The headers that the images have in the cache.
 ghost use Rattle.std.specs.Prelude.{◌≡◌, ◌≤◌, map, length, IfOk};
-ghost use Rattle.cache_build.specs.Places.{linkedit_place};
-ghost use Rattle.cache_build.specs.Cache.{spots_at, headers_of};
+ghost use Rattle.cache_build.specs.PlainPlaces.{linkedit_place};
+ghost use Rattle.cache_build.specs.PlainCache.{spots_at, headers_of};
 ghost use Rattle.cache_build.specs.Fits.{CanMoveAll, AreSized};
 
 use crate::frame::LINKEDIT_SIZE;
@@ -15,7 +15,7 @@ use std::alloc::Global;
 const NOTHING: Span = Span { at: 0, len: 0 };
 
 /// Where each image finds its streams and tables, where the linkedit stands at a place of the file.
-#[tactic(auto, unfolding(crate::specs::Cache::spots_at, dsc_base::specs::Region::paged))]
+#[tactic(auto, unfolding(crate::specs::PlainCache::spots_at, dsc_base::specs::Region::paged))]
 fn spots(place: u64) -> LinkSpots
     requires { place ≤ 0x2000_0000 }
     ensures { result ≡ spots_at place }

@@ -3,10 +3,13 @@
 
 mod assemble;
 mod builder;
+mod filling;
 mod frame;
 mod head;
 mod headers;
+mod planned;
 mod pointers;
 mod segments;
+mod slides;
 
 pub use builder::{Options, build};

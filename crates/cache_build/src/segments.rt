@@ -2,7 +2,7 @@
 ghost use Rattle.std.specs.Prelude.{◌≡◌, ◌≤◌, ◌++◌, map, replicate, length, All, OnOk};
 ghost use Rattle.dsc_base.specs.Region.{padded};
 ghost use Rattle.cache_layout.specs.Parts.{image_part, mapping_part};
-ghost use Rattle.cache_build.specs.Cache.{pages_of, segment_pages, all_pages};
+ghost use Rattle.cache_build.specs.PlainCache.{pages_of, segment_pages, all_pages};
 ghost use Rattle.cache_build.specs.Fits.{HasRoom, IsLow, Fits, AreSized};
 
 use cache_layout::Mapping;
@@ -44,7 +44,7 @@ fn append_headed(
 }
 
 /// Appends a segment in whole pages, with the cached header at the front of the first one.
-#[tactic(auto, unfolding(crate::specs::Cache::pages_of))]
+#[tactic(auto, unfolding(crate::specs::PlainCache::pages_of))]
 fn append_segment(
     cache: &mut Vec<u8>,
     header: &[u8],

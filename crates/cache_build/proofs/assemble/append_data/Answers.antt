@@ -3,7 +3,7 @@ use Rattle.cache_layout.specs.declared.mapping.Mapping.TheVariants.{Writable}
 use Rattle.cache_layout.specs.Parts.{mapping_part}
 use Rattle.slide_chain.specs.Info.{info_bytes}
 use Rattle.slide_chain.specs.Making.{info_of}
-use Rattle.cache_build.specs.Cache.{all_pages}
+use Rattle.cache_build.specs.PlainCache.{all_pages}
 use Rattle.cache_build.specs.Pointers.{pointers_of, places}
 use Rattle.cache_build.proofs.LinkLaws.{behind_all, moves_of, data_long, data_room, data_pointers, data_appended}
 use Rattle.cache_build.proofs.assemble.append_data.Goals as goal

@@ -8,7 +8,7 @@ use Rattle.macho_edit.specs.Cached.{cached_bytes}
 use Rattle.macho_edit.specs.Conditions.{CanMove}
 use Rattle.cache_layout.specs.Places.{numbered}
 use Rattle.cache_layout.proofs.NumberedLaws.{numbered-grown, map-push}
-use Rattle.cache_build.specs.Cache.{spots_at, header_of}
+use Rattle.cache_build.specs.PlainCache.{spots_at, header_of}
 use Rattle.cache_build.proofs.PartLaws.{sizes_grown}
 use Rattle.cache_build.proofs.headers.cached_headers.Goals as goal
 

@@ -1,6 +1,6 @@
 use Rattle.std.proofs.Common.{◌≡◌, map, take, length}
 use Rattle.cache_layout.specs.Places.{numbered}
-use Rattle.cache_build.specs.Cache.{header_of}
+use Rattle.cache_build.specs.PlainCache.{header_of}
 use Rattle.cache_build.proofs.headers.cached_headers.Given as goal
 
 abbrev pub invariant-loop-number : goal.invariant-loop-number

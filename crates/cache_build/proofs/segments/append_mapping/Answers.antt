@@ -2,7 +2,7 @@ use Rattle.std.proofs.Common.{◌≡◌, ◌≤◌, ◌++◌, ℕ, List, Vec, Gl
 use Rattle.std.specs.Prelude.{slice_get}
 use Rattle.macho_image.specs.Records.{Seg, Img}
 use Rattle.cache_layout.specs.Parts.{image_part}
-use Rattle.cache_build.specs.Cache.{segment_pages}
+use Rattle.cache_build.specs.PlainCache.{segment_pages}
 use Rattle.cache_build.specs.Fits.{Fits}
 use Rattle.cache_build.proofs.PartLaws.{images_there, sized_at, sized_long, header_there}
 use Rattle.cache_build.proofs.segments.append_mapping.Goals as goal
