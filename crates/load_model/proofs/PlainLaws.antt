@@ -129,7 +129,7 @@ none_absent i = elim (is_unsplit i) as (λ b. references (if b then Refused (rec
 ]
 
 none_spelled : (i : Img) → references_of (Some (0x7F ∷ 0 ∷ [])) i ≡ []
-unfolding references_of spelled_of spelled uleb_at split.pairs
+unfolding references_of spelled_of spelled uleb_at split.times
 none_spelled i = refl
 
 split_none : (split c : List ℕ) → IsBuilt is_split_info split c → split ≡ 0x7F ∷ 0 ∷ []
