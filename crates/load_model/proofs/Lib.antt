@@ -27,3 +27,5 @@ pub mod WordPlaces
 pub mod LoadedBytes
 pub mod SoundApart
 pub mod LoadedSides
+pub mod AreaLaws
+pub mod PieceLaws

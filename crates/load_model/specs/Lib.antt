@@ -1,4 +1,6 @@
+pub mod Areas
 pub mod Corresponds
+pub mod Handed
 pub mod Loading
 pub mod Mapped
 pub mod Memory

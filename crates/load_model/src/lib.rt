@@ -4,8 +4,12 @@
 
 mod accept;
 mod linkedits;
+mod loaded;
+mod loading;
 mod not_yet;
 mod set;
 mod symbols;
 
+pub use loaded::LoadedSegment;
+pub use loading::load_image;
 pub use set::{FileSet, read_files};
