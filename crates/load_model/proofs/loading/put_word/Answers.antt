@@ -12,4 +12,4 @@ returns c =
     let area : c.deref_mut.result.now ≡ slice_index_or (contents c.args.areas.now.items) c.args.segment [] = search (rules, sym whole) in
     let items : (with_items c.index_mut-area.result.now c.put_u64.new.bytes).items ≡ c.put_u64.new.bytes = with_items_is c.index_mut-area.result.now c.put_u64.new.bytes (search (rules, c.put_u64.auto.bytes, c.deref_mut.ensures.len)) in
     contents_set c.args.areas.now.items c.args.segment (with_items c.index_mut-area.result.now c.put_u64.new.bytes) (put_number 8 (slice_index_or (contents c.args.areas.now.items) c.args.segment []) c.args.at c.args.value)
-    (items ∙ c.put_u64.ensures ∙ ap (λ (b : List ℕ). put_number 8 b c.args.at c.args.value) area)
+    (items ∙ c.put_u64.ensures.put ∙ ap (λ (b : List ℕ). put_number 8 b c.args.at c.args.value) area)
