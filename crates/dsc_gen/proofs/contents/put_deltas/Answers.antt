@@ -8,8 +8,8 @@ pub loop-i-preserved : goal.loop-i-preserved
 loop-i-preserved c =
     let room : 16 * c.loop-i.i + 4 ≤ length c.loop-i.bytes = omega (arith, c.loop-i.invariant.same) in
     record {
-      set = deltas_more c.args.size c.args.targets.now c.loop-i.i _ _ _ c.loop-i-test.true c.loop-i.invariant.set c.put_u32.ensures;
-      same = ap length c.put_u32.ensures ∙ (length-put_number 4 c.loop-i.bytes (16 * c.loop-i.i) _ room ∙ c.loop-i.invariant.same);
+      set = deltas_more c.args.size c.args.targets.now c.loop-i.i _ _ _ c.loop-i-test.true c.loop-i.invariant.set c.put_u32.ensures.put;
+      same = ap length c.put_u32.ensures.put ∙ (length-put_number 4 c.loop-i.bytes (16 * c.loop-i.i) _ room ∙ c.loop-i.invariant.same);
     }
 
 pub returns : goal.returns
