@@ -1,4 +1,4 @@
--- The cache of a set of images: the bytes of its parts, joined.
+-- The cache of any set of images, for any number of bits: the bytes of its parts, joined.
 use Rattle.std.specs.Prelude.{ℕ, ◌-◌, List, [], ◌++◌, length, slice_index_or}
 use Rattle.dsc_base.specs.Region.{padded}
 use Rattle.dsc_base.specs.declared.fault.Span.{Span}

@@ -1,4 +1,4 @@
--- The cache of a set of images: the bytes of its parts, joined.
+-- The cache of images whose words are rebases alone, with distances of 16 bits: the bytes of its parts, joined.
 use Rattle.std.specs.Prelude.{ℕ, zero, suc, List, [], ◌∷◌, ◌++◌, drop, length, Option, Some, None, slice_get, slice_index_or}
 use Rattle.dsc_base.specs.Region.{paged, padded}
 use Rattle.dsc_base.specs.declared.fault.Span.{Span}

@@ -1,4 +1,4 @@
--- Where slide information and the merged linkedit stand, behind the segments of a layout, and where a cache ends.
+-- Where slide information and a linkedit of one byte stand, behind the segments of a layout, and where such a cache ends.
 use Rattle.std.specs.Prelude.{ℕ, ◌+◌, ◌*◌, ◌/◌}
 use Rattle.dsc_base.specs.Region.{paged}
 use Rattle.cache_layout.specs.Layouts.{Laid}

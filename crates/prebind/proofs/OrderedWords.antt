@@ -43,8 +43,8 @@ rises_from floor (w ∷ ws) first next = (
   first w (omega arith),
   rises_from (key w + 1) ws (λ d some. let here : key w < key (get_or ws 0 d) = next 0 d (omega (arith, some)) in omega (arith, here))
       (λ i d lt.
-          let at : suc i + 1 ≡ suc (i + 1) = omega arith in
-          subst (λ (n : ℕ). key (get_or (w ∷ ws) (suc i) d) < key (get_or (w ∷ ws) n d)) at (next (suc i) d (omega (arith, lt)))),
+      let at : suc i + 1 ≡ suc (i + 1) = omega arith in
+      subst (λ (n : ℕ). key (get_or (w ∷ ws) (suc i) d) < key (get_or (w ∷ ws) n d)) at (next (suc i) d (omega (arith, lt)))),
 )
 
 high : (floor : ℕ) (ws : List PlacedWord) (w : PlacedWord) → RisesFrom floor ws → Among w ws → floor ≤ key w
