@@ -2,7 +2,9 @@ pub mod AmongLaws
 pub mod AssembleLaws
 pub mod BelongLaws
 pub mod BuildLaws
+pub mod BuildableSets
 pub mod ByteLaws
+pub mod CacheFacts
 pub mod CacheLaws
 pub mod CachedImages
 pub mod CachedSegments
