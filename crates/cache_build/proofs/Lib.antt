@@ -1,3 +1,4 @@
+pub mod AcceptedSets
 pub mod AmongLaws
 pub mod AssembleLaws
 pub mod BelongLaws
@@ -6,8 +7,11 @@ pub mod BuildableSets
 pub mod ByteLaws
 pub mod CacheFacts
 pub mod CacheLaws
+pub mod CacheTheorem
 pub mod CachedImages
 pub mod CachedSegments
+pub mod CachedWords
+pub mod ChainedWords
 pub mod DataBytes
 pub mod ExportLaws
 pub mod FitsLaws
@@ -15,8 +19,12 @@ pub mod GatherLaws
 pub mod HeadFacts
 pub mod HeadLaws
 pub mod LedPointers
+pub mod LedWords
 pub mod LinkLaws
+pub mod MappedWords
+pub mod Memberships
 pub mod MovedLaws
+pub mod OtherBytes
 pub mod OwnWords
 pub mod PartLaws
 pub mod PlacedSets
@@ -30,9 +38,11 @@ pub mod SectionLaws
 pub mod SegmentPages
 pub mod SetPointerLaws
 pub mod SetPointers
+pub mod SetWords
 pub mod SlideSizes
 pub mod SpanLaws
 pub mod TargetLaws
+pub mod TargetPlaces
 pub mod Theorem
 pub mod WholeCaches
 pub mod WholePages

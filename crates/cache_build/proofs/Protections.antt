@@ -10,7 +10,7 @@ use Rattle.macho_image.specs.Breaks.{unread, IsSound}
 use Rattle.cache_layout.specs.declared.mapping.Mapping.TheVariants.{Text, Writable, Fixed}
 use Rattle.cache_layout.specs.Places.{mapping_of}
 use Rattle.cache_layout.proofs.SoundLaws.{sound_rules, shape_parts, both, load-of, sound_linkedit}
-use Rattle.cache_build.proofs.FitsLaws.{two_segments}
+use Rattle.ref_rewrite.proofs.HomeLaws.{two_segments}
 
 wanted : (b : Bool) (at : ℕ) (o : Option ℕ) → (if b then o else Some at) ≡ None → (b ≡ true) × (o ≡ None)
 wanted true at o e = (refl, e)

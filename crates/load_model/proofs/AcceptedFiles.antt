@@ -1,7 +1,9 @@
 -- What files have that break no rule of the first four phases.
-use Rattle.std.proofs.Common.{◌≡◌, ℕ, None, List, length}
+use Rattle.std.proofs.Common.{◌≡◌, ℕ, Some, None, List, length}
+use Rattle.std.specs.Prelude.{slice_get}
 use Rattle.dsc_base.specs.Refusals.{in_each}
 use Rattle.macho_image.specs.Records.{Img}
+use Rattle.macho_image.specs.TableRules.{table_break}
 use Rattle.dep_closure.specs.Breaks.{link_break}
 use Rattle.prebind.specs.Sets.{image_set}
 use Rattle.prebind.specs.Places.{export_break}
@@ -9,12 +11,13 @@ use Rattle.prebind.specs.WordRules.{place_break}
 use Rattle.prebind.proofs.SetLaws.{HaveStreams}
 use Rattle.load_model.specs.Phases.{images_of, shape_break, linkedits_from, symbols_break, images_break, files_break}
 use Rattle.load_model.proofs.FirstLaws.{AreUnbroken, first_each}
-use Rattle.load_model.proofs.LinkeditLaws.{streams_unbroken}
+use Rattle.load_model.proofs.LinkeditLaws.{streams_unbroken, tables_unbroken}
 use Rattle.load_model.proofs.Unbroken.{neither}
 
 pub record AreAccepted (files : List (List ℕ)) : Type 0 where
   pub shapes : in_each shape_break 0 files ≡ None
   pub streams : HaveStreams (images_of files)
+  pub tables : (k : ℕ) (image : Img) → slice_get (images_of files) k ≡ Some image → table_break image ≡ None
   pub linked : link_break (images_of files) ≡ None
   pub exports : AreUnbroken (export_break (image_set (images_of files))) (length (images_of files))
   pub words : AreUnbroken (place_break (image_set (images_of files))) (length (images_of files))
@@ -31,6 +34,7 @@ accepted_files files none =
     record {
       shapes = one.0;
       streams = streams_unbroken 0 0 0 is two.0;
+      tables = tables_unbroken 0 0 0 is two.0;
       linked = three.0;
       exports = first_each (export_break (image_set is)) (length is) five.0;
       words = first_each (place_break (image_set is)) (length is) five.1;

@@ -1,6 +1,6 @@
 -- The linkedits of images, read one by one.
 use Rattle.std.proofs.Common.{◌≡◌, ◌≤◌, ◌<◌, ℕ, zero, suc, ◌+◌, Option, Some, None, List, [], ◌∷◌, ◌++◌, map, take, drop, length, get_or, refl, sym, ap, ap₂, ◌∙◌, subst, arith}
-use Rattle.std.specs.Prelude.{option_map}
+use Rattle.std.specs.Prelude.{option_map, slice_get}
 use Rattle.std.specs.Option.{option_or}
 use Rattle.std.proofs.lemmas.List.{drop_more, drop_all, take_all, take_more, map-append}
 use Rattle.dsc_base.specs.declared.fault.Site.{Site}
@@ -93,6 +93,19 @@ streams_unbroken n records names (i ∷ is) none zero image got =
 streams_unbroken n records names (i ∷ is) none (suc k) image got =
     let own = neither (option_map {T = Site} {U = Break} (in_image n) (linkedit_break records names i)) (linkedits_from (n + 1) (records + record_count i) (names + name_bytes i) is) none in
     streams_unbroken (n + 1) (records + record_count i) (names + name_bytes i) is own.1 k image got
+
+-- and tables that break none
+pub tables_unbroken : (n records names : ℕ) (images : List Img) → linkedits_from n records names images ≡ None → (k : ℕ) (image : Img) → slice_get images k ≡ Some image → table_break image ≡ None
+unfolding linkedits_from linkedit_break
+tables_unbroken n records names [] none k image got = absurd (cc)
+tables_unbroken n records names (i ∷ is) none zero image got =
+    let own = neither (option_map {T = Site} {U = Break} (in_image n) (linkedit_break records names i)) (linkedits_from (n + 1) (records + record_count i) (names + name_bytes i) is) none in
+    let same : i ≡ image = cc in
+    let streams = neither (streams_break i) _ (site_none n (linkedit_break records names i) own.0) in
+    ap table_break (sym same) ∙ (neither (table_break i) _ streams.1).0
+tables_unbroken n records names (i ∷ is) none (suc k) image got =
+    let own = neither (option_map {T = Site} {U = Break} (in_image n) (linkedit_break records names i)) (linkedits_from (n + 1) (records + record_count i) (names + name_bytes i) is) none in
+    tables_unbroken (n + 1) (records + record_count i) (names + name_bytes i) is own.1 k image got
 
 -- ---- one linkedit, whose streams and tables break no rule
 

@@ -110,7 +110,7 @@ no_word rebases bound r other none = at (is_pointer r.kind) (meets_word rebases 
 -- ---- where they lead
 
 -- both ends of a difference move alike, and so does a header
-kind_leads : (kind : RefKind) (from header n slide : ℕ) → is_pointer kind ≡ false → led_to kind (wrap (from + slide)) (wrap (header + slide)) n ≡ wrap (led_to kind from header n + slide)
+pub kind_leads : (kind : RefKind) (from header n slide : ℕ) → is_pointer kind ≡ false → led_to kind (wrap (from + slide)) (wrap (header + slide)) n ≡ wrap (led_to kind from header n + slide)
 unfolding led_to
 kind_leads Pointer64 from header n slide other = absurd (cc)
 kind_leads Delta32 from header n slide other = moved from (extended n) slide
@@ -133,7 +133,7 @@ unfolding number_of
 number_read ss r t got = ap (λ (o : Option Seg). number_within (width_of r.kind) o r.from) got
 
 -- as many bytes as a kind has hold its number
-width_holds : (kind : RefKind) (n : ℕ) → n < 256 ^ width_of kind → n < 2 ^ (8 * width_of kind)
+pub width_holds : (kind : RefKind) (n : ℕ) → n < 256 ^ width_of kind → n < 2 ^ (8 * width_of kind)
 width_holds Pointer64 n small = omega arith
 width_holds Delta32 n small = omega arith
 width_holds Delta64 n small = omega arith
