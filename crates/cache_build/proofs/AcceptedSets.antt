@@ -74,15 +74,15 @@ no_export set k past =
     get_or_past (exports_in set.streams) k [] (let long : length (exports_in set.streams) ≡ length set.streams = length-map set.streams _ in omega (arith, past, long)) in
     ap (λ (es : List Export). Rattle.std.specs.Prelude.option_map (in_image k) (broken ExportOutside (Rattle.std.specs.List.position (λ (e : Export). strays (segments_at set.images k) e.target) es))) none
 
+streams_long : (js : List Img) → length (image_set js).streams ≡ length js
+unfolding image_set
+streams_long js = length-map js lists_of
+
 pub exports_inside : (is : List Img) → IsAccepted is → HaveExportsInside (image_set is)
 exports_inside is accepted k = elim (cases_lt k (length is)) [
   | inl inside ↦ accepted.exports k inside
   | inr past ↦ no_export (image_set is) k (let long : length (image_set is).streams ≡ length is = streams_long is in omega (arith, past, long))
 ]
-  where
-    streams_long : (js : List Img) → length (image_set js).streams ≡ length js
-    unfolding image_set
-    streams_long js = length-map js lists_of
 
 -- ---- what they break behind their layout
 
@@ -91,12 +91,9 @@ neither None b none = (refl, none)
 neither (Some x) b some = absurd (cc)
 
 pub buildable_set : (bits : ℕ) (is : List Img) → 1 ≤ bits → bits ≤ 16 → IsAccepted is → behind_layout bits (layout_of is) (image_set is) ≡ None → IsBuildable bits is
-unfolding behind_layout
+unfolding behind_layout image_set
 buildable_set bits is some most accepted none =
     let one = neither (rewrite_break (layout_of is) (image_set is)) _ none in
     let two = neither (chains_break bits (layout_of is).writable.len (set_chained is)) _ one.1 in
-    let three = neither (merge_of is) None two.1 in
+    let three = neither (merge_break (layout_of is) (length (set_slide bits is)) (set_shares is)) None two.1 in
     record { some = some; most = most; accepted = accepted; rewritten = one.0; chains = two.0; merged = three.0 }
-  where
-    merge_of : List Img → Option Break
-    merge_of js = merge_break (layout_of js) (length (set_slide bits js)) (set_shares js)

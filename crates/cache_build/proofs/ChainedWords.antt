@@ -18,7 +18,7 @@ use Rattle.load_model.proofs.WordCases.{IsIn, IsOf, in_left, in_map, of_map, in_
 use Rattle.ref_rewrite.specs.Planned.{leads_to_place, is_chained, data_offset, chained_in}
 use Rattle.cache_build.specs.Edits.{image_chained, chained_of}
 use Rattle.cache_build.proofs.BuildableSets.{IsAccepted, set_edits, set_chained}
-use Rattle.cache_build.proofs.Memberships.{IsOfOne, of_flat, in_flat, IsNumbered, of_numbered, in_numbered, of_any, in_any, IsByteOf}
+use Rattle.cache_build.proofs.Memberships.{IsOfOne, of_flat, in_flat, in_enumerated, of_any, in_any, IsByteOf}
 use Rattle.cache_build.proofs.SetWords.{SetWord, words_at, numbered_words, set_words, edit_at, IsPointer, at_cases, IsOfSet, of_set, one_word}
 use Rattle.cache_build.proofs.CachedWords.{Stands, word_stands_at, pointer_in_data}
 
@@ -82,9 +82,9 @@ in_chained is accepted x there chained =
           let kept : IsIn (filter (is_chained x.word.at.segment) placed) p = in_filter (is_chained x.word.at.segment) placed p pointer.there passes in
           let offset : IsIn (chained_in l k i.segments placed (x.word.at.segment, stands.segment)) (data_offset l k i.segments p) = in_map (data_offset l k i.segments) (filter (is_chained x.word.at.segment) placed) p kept in
           let there_too : IsIn (image_chained l (image_set is) k i) (data_offset l k i.segments p) =
-          in_flat (chained_in l k i.segments placed) (enumerate_from 0 i.segments) (x.word.at.segment, stands.segment) (data_offset l k i.segments p) (in_numbered 0 i.segments x.word.at.segment stands.segment stands.segment_is) offset in
+          in_flat (chained_in l k i.segments placed) (enumerate_from 0 i.segments) (x.word.at.segment, stands.segment) (data_offset l k i.segments p) (in_enumerated i.segments x.word.at.segment stands.segment stands.segment_is) offset in
           subst (λ (w : Word). IsIn (set_chained is) ((edit_at is (record { number = k; image = i; word = w })).at - l.writable.at)) (sym pointer.is)
-          (in_flat (λ (q : ℕ × Img). image_chained l (image_set is) q.0 q.1) (enumerate_from 0 is) (k, i) (data_offset l k i.segments p) (in_numbered 0 is k i own.image_is) there_too)
+          (in_flat (λ (q : ℕ × Img). image_chained l (image_set is) q.0 q.1) (enumerate_from 0 is) (k, i) (data_offset l k i.segments p) (in_enumerated is k i own.image_is) there_too)
       | inr other ↦
           let kind : other.reference.kind ≡ Pointer64 = sym (ap (λ (w : Word). w.kind) other.is) ∙ chained.pointer in
           absurd (false≢true (sym other.other ∙ ap is_pointer kind))

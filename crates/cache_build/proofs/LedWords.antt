@@ -26,7 +26,7 @@ use Rattle.load_model.proofs.RuledWords.{position_none}
 use Rattle.load_model.proofs.LoadedReferences.{kind_leads}
 use Rattle.ref_rewrite.specs.Moving.{new_starts, new_address, header_move, has_bytes, can_lead}
 use Rattle.ref_rewrite.specs.Breaks.{is_delta, is_offset, is_out_of_range, out_of_range, delta_break, offset_break, image_break, rewrite_break}
-use Rattle.cache_build.proofs.Memberships.{in_numbered}
+use Rattle.cache_build.proofs.Memberships.{in_enumerated}
 use Rattle.cache_build.proofs.SetWords.{IsPointer, IsReferred}
 
 -- ---- raised by a slide
@@ -81,7 +81,7 @@ record InRange (l : Laid) (set : ImageSet) (k : ℕ) (i : Img) : Type 0 where
 in_range : (l : Laid) (set : ImageSet) (k : ℕ) (i : Img) → rewrite_break l set ≡ None → slice_get set.images k ≡ Some i → InRange l set k i
 unfolding rewrite_break image_break delta_break offset_break
 in_range l set k i none image =
-    let own = each_none (λ (p : ℕ × Img). image_break l set p.0) 0 (enumerate_from 0 set.images) (k, i) none (in_numbered 0 set.images k i image) in
+    let own = each_none (λ (p : ℕ × Img). image_break l set p.0) 0 (enumerate_from 0 set.images) (k, i) none (in_enumerated set.images k i image) in
     let one = or_none (delta_break l set k) _ own in
     let two = or_none (offset_break l set k) _ one.1 in
     record {
@@ -108,10 +108,10 @@ reference_can l set k i r none image there other =
     (position_none (is_out_of_range is_offset l k i.sections i.segments) (streams_at set k).references r range.offsets there)
   where
     by_kind : (kind : RefKind) → r.kind ≡ kind → is_pointer kind ≡ false → is_out_of_range is_delta l k i.sections i.segments r ≡ false → is_out_of_range is_offset l k i.sections i.segments r ≡ false → can_lead l k i.segments (other_word k i r) ≡ true
-    by_kind Pointer64 is no delta offset = absurd (cc)
-    by_kind Delta32 is no delta offset = not_both (is_delta r.kind) (can_lead l k i.segments (other_word k i r)) (ap is_delta is) delta
-    by_kind Delta64 is no delta offset = wide r.kind _ is
-    by_kind ImageOff32 is no delta offset = not_both (is_offset r.kind) (can_lead l k i.segments (other_word k i r)) (ap is_offset is) offset
+    by_kind Pointer64 is free delta offset = absurd (cc)
+    by_kind Delta32 is free delta offset = not_both (is_delta r.kind) (can_lead l k i.segments (other_word k i r)) (ap is_delta is) delta
+    by_kind Delta64 is free delta offset = wide r.kind _ is
+    by_kind ImageOff32 is free delta offset = not_both (is_offset r.kind) (can_lead l k i.segments (other_word k i r)) (ap is_offset is) offset
 
 -- a pointer has bytes for any number
 pub pointer_can : (l : Laid) (k : ℕ) (ss : List Seg) (w : Word) → w.kind ≡ Pointer64 → can_lead l k ss w ≡ true

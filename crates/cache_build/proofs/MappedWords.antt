@@ -130,7 +130,7 @@ header_moved bits is k i lt at sound =
     let own : first.0 ≡ get_or i.segments 0 first.0 = sym (get_or_from_slice_get i.segments 0 s s first.1) in
     let other : is_linkedit_segment first.0 ≡ false = (sound_linkedit i sound 0 s some own).0 (omega (arith, two)) in
     let moved = moved_first i (slice_index_or (layout_of is).moves k []) (slice_index_or (set_spots bits is) k no_spots) (slid_of bits is 0) s (length-moves-of is k i lt at) first.1 (first_is_text i sound s first.1) in (
-      front_header (moved_in bits is k i).segments moved.0 moved.1.0 moved.1.1 ∙ segment_moved bits is k 0 i s lt at first.1 other,
+      front_header (moved_in bits is k i).segments moved.0 moved.1 moved.2 ∙ segment_moved bits is k 0 i s lt at first.1 other,
       ap (λ (o : Option ℕ). (move_or_none (layout_of is) k o).address) (text_position i sound),
     )
 
@@ -152,7 +152,7 @@ range_below is accepted Text = let turn : AreInTurn is (layout_of is) = are_in_t
 range_below is accepted Writable = let turn : AreInTurn is (layout_of is) = are_in_turn is accepted.layout in omega (arith, turn.fixed)
 range_below is accepted Fixed = omega arith
 
-fixed_ends : (bits : ℕ) (is : List Img) → (layout_of is).fixed.at + (layout_of is).fixed.len ≤ set_span bits is
+pub fixed_ends : (bits : ℕ) (is : List Img) → (layout_of is).fixed.at + (layout_of is).fixed.len ≤ set_span bits is
 unfolding linkedit_start
 fixed_ends bits is = let covers = paged-covers ((layout_of is).fixed.at + (layout_of is).fixed.len + length (set_slide bits is)) in omega (arith, covers)
 
@@ -165,7 +165,7 @@ segment_ends bits is accepted k g i s there other =
 pub edit_ends : (bits : ℕ) (is : List Img) → IsAccepted is → HasEdits bits is → (e : Edit) → IsAmong e (set_edits is) → e.at + e.width ≤ set_span bits is
 edit_ends bits is accepted edits e among =
     let home = edits.within e among in
-    omega (arith, home.1.1, range_below is accepted home.0, fixed_ends bits is)
+    omega (arith, home.2, range_below is accepted home.0, fixed_ends bits is)
 
 number_there : (bits : ℕ) (is : List Img) → IsCachedSet bits is → (slide address : ℕ) (x : SetWord) → IsIn (set_words is) x → address ≡ region_start + (edit_at is x).at
     → HasNumber (width_of x.word.kind) (mapped (cache_of bits is) slide) (wrap (address + slide)) (slid_value is slide (edit_at is x))

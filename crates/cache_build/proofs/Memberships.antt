@@ -56,15 +56,18 @@ in_numbered {X = X} n (y ∷ ys) (suc k) x got =
     subst (λ (m : ℕ). IsIn (enumerate_from n (y ∷ ys)) (m, x)) (let e : n + 1 + k ≡ n + suc k = omega arith in e)
     (in_rest (n, y) (enumerate_from (n + 1) ys) (n + 1 + k, x) (in_numbered (n + 1) ys k x got))
 
+pub in_enumerated : {X : Type 0} (xs : List X) (k : ℕ) (x : X) → slice_get xs k ≡ Some x → IsIn (enumerate_from 0 xs) (k, x)
+in_enumerated {X = X} xs k x got = subst (λ (n : ℕ). IsIn (enumerate_from 0 xs) (n, x)) (let e : 0 + k ≡ k = omega arith in e) (in_numbered 0 xs k x got)
+
 -- ---- tests
 
 pub of_any : {X : Type 0} (p : X → Bool) (xs : List X) → list_any p xs ≡ true → (x : X) × (IsIn xs x × (p x ≡ true))
 of_any p [] is = absurd (cc)
 of_any {X = X} p (x ∷ xs) is = elim (cases_Bool (p x)) [
-  | inl here ↦ (x, in_first x xs, here)
+  | inl here ↦ (x, (in_first x xs, here))
   | inr not_here ↦
       let rest = of_any p xs (later (p x) (list_any p xs) not_here is) in
-      (rest.0, in_rest x xs rest.0 rest.1.0, rest.1.1)
+      (rest.0, (in_rest x xs rest.0 rest.1.0, rest.1.1))
 ]
   where
     later : (a b : Bool) → a ≡ false → a || b ≡ true → b ≡ true

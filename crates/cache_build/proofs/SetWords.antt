@@ -16,12 +16,12 @@ use Rattle.prebind.specs.Sets.{StreamLists, ImageSet, image_set}
 use Rattle.prebind.specs.Words.{Word, streams_at, pointers_of, pointer_word, reference_word, is_no_pointer, sections_in, words_of, put_word, in_word_order, ordered_pointers}
 use Rattle.cache_layout.specs.Layouts.{Laid, layout_of}
 use Rattle.load_model.specs.Corresponds.{IsWordOf}
-use Rattle.load_model.proofs.WordCases.{IsIn, in_first, in_rest, in_cases, in_none, in_left, in_right, in_either, in_map, IsOf, of_map, of_filter, not_true, word_in, other_word}
+use Rattle.load_model.proofs.WordCases.{IsIn, in_first, in_rest, in_cases, in_none, in_left, in_right, in_either, in_map, IsOf, of_map, of_filter, word_in, other_word}
 use Rattle.ref_rewrite.specs.Moving.{edit_of}
 use Rattle.ref_rewrite.specs.Planned.{words_with}
 use Rattle.cache_build.specs.Edits.{image_edits, edits_of}
 use Rattle.cache_build.proofs.BuildableSets.{set_edits}
-use Rattle.cache_build.proofs.Memberships.{IsOfOne, of_flat, in_flat, IsNumbered, of_numbered, in_numbered, among_in, in_among, IsByteOf, only_one}
+use Rattle.cache_build.proofs.Memberships.{IsOfOne, of_flat, in_flat, IsNumbered, of_numbered, in_enumerated, among_in, in_among, IsByteOf, only_one}
 
 pub record SetWord : Type 0 where
   pub number : ℕ
@@ -123,6 +123,10 @@ pub record IsReferred (set : ImageSet) (k : ℕ) (i : Img) (w : Word) : Type 0 w
   pub other : is_pointer reference.kind ≡ false
   pub is : w ≡ other_word k i reference
 
+not_true : (b : Bool) → not b ≡ true → b ≡ false
+not_true true is = absurd (cc)
+not_true false is = refl
+
 pub at_cases : (set : ImageSet) (k : ℕ) (i : Img) (w : Word) → IsIn (words_at set k i) w → IsPointer set k w ⊎ IsReferred set k i w
 at_cases set k i w there =
     elim (in_either (map pointer_word (ordered_pointers set k)) (map (other_word k i) (filter is_no_pointer (streams_at set k).references)) w there) [
@@ -183,7 +187,7 @@ images_are is k i got = got
 pub in_set : (is : List Img) (k : ℕ) (i : Img) (w : Word) → slice_get is k ≡ Some i → IsWordOf (words_of (image_set is) k) w → IsIn (set_words is) (record { number = k; image = i; word = w })
 in_set is k i w image word =
     in_flat (numbered_words (image_set is)) (enumerate_from 0 is) (k, i) (record { number = k; image = i; word = w })
-    (subst (λ (n : ℕ). IsIn (enumerate_from 0 is) (n, i)) (let e : 0 + k ≡ k = refl in e) (in_numbered 0 is k i image))
+    (in_enumerated is k i image)
     (in_map (λ (v : Word). let x : SetWord = record { number = k; image = i; word = v } in x) (words_at (image_set is) k i) w (word_at (image_set is) k i w (images_are is k i image) word))
 
 pub record IsOfSet (is : List Img) (x : SetWord) : Type 0 where
@@ -198,7 +202,7 @@ of_set is x there =
     let number : IsNumbered 0 is one.from = of_numbered 0 is one.from one.there in
     let make : Word → SetWord = λ w. record { number = p.0; image = p.1; word = w } in
     let w : IsOf make (words_at (image_set is) p.0 p.1) x = of_map make (words_at (image_set is) p.0 p.1) x one.inside in
-    let same : one.from.0 ≡ number.index = number.number in
+    let same : one.from.0 ≡ number.index = omega (arith, number.number) in
     let image : slice_get is one.from.0 ≡ Some one.from.1 = ap (λ (n : ℕ). slice_get is n) same ∙ number.found in
     subst (IsOfSet is) (sym w.is) (record { image_is = image; there = w.there; word = at_word (image_set is) p.0 p.1 w.from (images_are is p.0 p.1 image) w.there })
 

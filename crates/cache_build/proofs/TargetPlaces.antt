@@ -1,6 +1,6 @@
 -- The place to which a word leads is in a segment other than `__LINKEDIT`.
-use Rattle.std.proofs.Common.{◌≡◌, ℕ, zero, suc, ◌+◌, ◌-◌, Bool, true, false, ◌&&◌, cond, Option, Some, None, List, [], ◌∷◌, ◌++◌, length, get_or, refl, sym, ap, ◌∙◌, subst, arith, inl, inr, if◌then◌else◌}
-use Rattle.std.specs.Prelude.{slice_get, nat_eq, position, option_map}
+use Rattle.std.proofs.Common.{◌≡◌, ℕ, zero, suc, ◌+◌, ◌-◌, ◌<◌, Bool, true, false, ◌&&◌, cond, Option, Some, None, List, [], ◌∷◌, ◌++◌, length, get_or, refl, sym, ap, ◌∙◌, subst, arith, inl, inr, if◌then◌else◌}
+use Rattle.std.specs.Prelude.{slice_get, nat_eq, position, option_map, ℤ}
 use Rattle.std.specs.Cmp.Lexicographic.{pointwise}
 use Rattle.std.proofs.lemmas.Bool.{cases_Bool, cond-true, cond-false}
 use Rattle.std.proofs.lemmas.Option.{same_Some, slice_get-get_or, get_or_from_slice_get}
@@ -26,7 +26,6 @@ use Rattle.dep_closure.specs.declared.dep.Dep.{Dep}
 use Rattle.dep_closure.specs.declared.dep.Dep.TheVariants as deps
 use Rattle.dep_closure.specs.Linked.{dependency_at}
 use Rattle.split_info.specs.declared.reference.Reference.{Reference}
-use Rattle.split_info.specs.declared.extent.Extent.{Extent}
 use Rattle.split_info.specs.References.{segment_section, header_section, section_numbered, to_section}
 use Rattle.std.specs.Option.{option_and_then}
 use Rattle.split_info.specs.Overlap.{is_pointer}
@@ -171,50 +170,67 @@ bound_own images addend outcomes.BadOrdinal own = tt
 
 -- ---- where references lead
 
-header_own : (i : Img) → IsSound i → (t : Extent) → header_section i.segments ≡ Some t → HasOwn i.segments t.segment
-header_own i sound t is =
+-- what a reference names is the header, which the first segment begins with, or a section
+fused : {X E : Type 0} (g : X → E) (f : E → ℕ) (o : Option X) → option_map f (option_map g o) ≡ option_map (λ (x : X). f (g x)) o
+fused g f None = refl
+fused g f (Some x) = refl
+
+told_by : {E : Type 0} (o : Option E) (t : E) (f : E → ℕ) (m : ℕ) → o ≡ Some t → f t ≡ m → option_map f o ≡ Some m
+told_by o t f m is leads = ap (option_map f) is ∙ ap Some leads
+
+first_of : {E : Type 0} (h : ℕ → Option E) (o : Option ℕ) (f : E → ℕ) (m : ℕ) → o ≡ Some 0 → option_map f (option_and_then h o) ≡ Some m → option_map f (h 0) ≡ Some m
+first_of h o f m is told = sym (ap (λ (q : Option ℕ). option_map f (option_and_then h q)) is) ∙ told
+
+when_true : {E : Type 0} (b : Bool) (x y : Option E) (f : E → ℕ) (m : ℕ) → b ≡ true → option_map f (cond b x y) ≡ Some m → option_map f x ≡ Some m
+when_true true x y f m is told = told
+when_true false x y f m is told = absurd (cc)
+
+when_false : {E : Type 0} (b : Bool) (x y : Option E) (f : E → ℕ) (m : ℕ) → b ≡ false → option_map f (cond b x y) ≡ Some m → option_map f y ≡ Some m
+when_false true x y f m is told = absurd (cc)
+when_false false x y f m is told = told
+
+header_first : (ss : List Seg) (m : ℕ) → option_map (λ t. t.segment) (segment_section ss 0) ≡ Some m → m ≡ 0
+header_first [] m told = absurd (cc)
+header_first (s ∷ ss) m told = sym (same_Some 0 m told)
+
+section_fused : (xs : List Section) (n : ℕ) → option_map (λ t. t.segment) (section_numbered xs n) ≡ option_map (λ (x : Section). x.segment) (numbered_section xs n)
+section_fused xs n = fused _ _ (numbered_section xs n)
+
+first_own : (i : Img) → IsSound i → HasOwn i.segments 0
+first_own i sound =
     let two = two_segments i sound in
     let d : Seg = record { name = []; vmaddr = 0; vmsize = 0; fileoff = 0; filesize = 0; maxprot = 0; initprot = 0; flags = 0; bytes = [] } in
     let s : Seg = get_or i.segments 0 d in
     let some : 0 < length i.segments = omega (arith, two) in
     let first : slice_get i.segments 0 ≡ Some s = slice_get-get_or i.segments 0 d some in
     let at : s ≡ get_or i.segments 0 s = sym (get_or_from_slice_get i.segments 0 s s first) in
-    let own : Option Extent = Some (record { number = 0; segment = 0; address = s.vmaddr; size = s.vmsize }) in
-    let found : header_section i.segments ≡ own =
-    ap (λ (o : Option ℕ). option_and_then (segment_section i.segments) o) (text_position i sound)
-    ∙ ap (λ (o : Option Seg). option_map {T = Seg} {U = Extent} (λ (x : Seg). record { number = 0; segment = 0; address = x.vmaddr; size = x.vmsize }) o) first in
-    let same : record { number = 0; segment = 0; address = s.vmaddr; size = s.vmsize } ≡ t = same_Some _ t (sym found ∙ is) in
-    let zero_is : 0 ≡ t.segment = ap (λ (x : Extent). x.segment) same in
-    record {
-      segment = s;
-      segment_is = ap (λ (n : ℕ). slice_get i.segments n) (sym zero_is) ∙ first;
-      owned = (sound_linkedit i sound 0 s some at).0 (omega (arith, two));
-    }
+    record { segment = s; segment_is = first; owned = (sound_linkedit i sound 0 s some at).0 (omega (arith, two)) }
 
-section_own : (i : Img) → IsSound i → (number : ℕ) (t : Extent) (o : Option Section) → numbered_section i.sections number ≡ o → nat_eq number 0 ≡ false
-    → option_map {T = Section} {U = Extent} (λ (x : Section). record { number = number; segment = x.segment; address = x.addr; size = x.size }) o ≡ Some t → HasOwn i.segments t.segment
-section_own i sound number t None got other is = absurd (cc)
-section_own i sound number t (Some x) got other is =
+section_own : (i : Img) → IsSound i → (number m : ℕ) (o : Option Section) → numbered_section i.sections number ≡ o → nat_eq number 0 ≡ false → option_map (λ (x : Section). x.segment) o ≡ Some m → HasOwn i.segments m
+section_own i sound number m None got other is = absurd (cc)
+section_own i sound number m (Some x) got other is =
     let at : slice_get i.sections (number - 1) ≡ Some x = sym (cond-false (nat_eq number 0) None (slice_get i.sections (number - 1)) other) ∙ got in
     let home : IsInside i x = section_inside i (number - 1) x sound at in
-    let same : record { number = number; segment = x.segment; address = x.addr; size = x.size } ≡ t = same_Some _ t is in
-    let segment : x.segment ≡ t.segment = ap (λ (e : Extent). e.segment) same in
+    let segment : x.segment ≡ m = same_Some x.segment m is in
     record {
       segment = home.segment;
       segment_is = ap (λ (n : ℕ). slice_get i.segments n) (sym segment) ∙ home.segment_is;
       owned = section_owned i sound (number - 1) x home.segment at home.segment_is;
     }
 
-extent_own : (i : Img) → IsSound i → (number : ℕ) (t : Extent) → to_section i number ≡ Some t → HasOwn i.segments t.segment
-extent_own i sound number t is = elim (cases_Bool (nat_eq number 0)) [
-  | inl none ↦ header_own i sound t (sym (cond-true (nat_eq number 0) (header_section i.segments) (section_numbered i.sections number) none) ∙ is)
+extent_own : (i : Img) → IsSound i → (number m : ℕ) → option_map (λ t. t.segment) (to_section i number) ≡ Some m → HasOwn i.segments m
+extent_own i sound number m told = elim (cases_Bool (nat_eq number 0)) [
+  | inl none ↦
+      let header : option_map (λ t. t.segment) (header_section i.segments) ≡ Some m = when_true (nat_eq number 0) (header_section i.segments) (section_numbered i.sections number) _ m none told in
+      let first : m ≡ 0 = header_first i.segments m (first_of (segment_section i.segments) (position is_text_segment i.segments) _ m (text_position i sound) header) in
+      subst (HasOwn i.segments) (sym first) (first_own i sound)
   | inr other ↦
-      section_own i sound number t (numbered_section i.sections number) refl other
-      (sym (cond-false (nat_eq number 0) (header_section i.segments) (section_numbered i.sections number) other) ∙ is)
+      let section : option_map (λ t. t.segment) (section_numbered i.sections number) ≡ Some m = when_false (nat_eq number 0) (header_section i.segments) (section_numbered i.sections number) _ m other told in
+      section_own i sound number m (numbered_section i.sections number) refl other (sym (section_fused i.sections number) ∙ section)
 ]
 
 reference_own : (i : Img) → IsSound i → (rebases : List Location) (r : Reference) → IsReference i rebases r → HasOwn i.segments r.to_segment
-reference_own i sound rebases r is = subst (HasOwn i.segments) is.to_segment (extent_own i sound r.to_section is.target is.target_is)
+reference_own i sound rebases r is = extent_own i sound r.to_section r.to_segment (told_by (to_section i r.to_section) is.target (λ t. t.segment) r.to_segment is.target_is is.to_segment)
 
 -- ---- where rebases lead
 
