@@ -6,8 +6,10 @@ pub mod BuildableSets
 pub mod ByteLaws
 pub mod CacheFacts
 pub mod CacheLaws
+pub mod CachedHeaders
 pub mod CachedImages
 pub mod CachedSegments
+pub mod CachedSets
 pub mod DataBytes
 pub mod ExportLaws
 pub mod FitsLaws
@@ -16,9 +18,13 @@ pub mod HeadFacts
 pub mod HeadLaws
 pub mod LedPointers
 pub mod LinkLaws
+pub mod MovedExports
 pub mod MovedLaws
+pub mod MovedSpots
+pub mod MovedTargets
 pub mod OwnWords
 pub mod PartLaws
+pub mod PlacedImages
 pub mod PlacedSets
 pub mod PlacesApart
 pub mod PlanHeaders
