@@ -1,6 +1,5 @@
 -- The header of each image stands in the cache, where the image is found as its file has it, with its segments moved.
 use Rattle.std.proofs.Common.{◌≡◌, ◌≤◌, ◌<◌, ℕ, ◌+◌, ◌-◌, ◌%◌, ◌^◌, false, Some, List, [], ◌++◌, take, drop, length, get_or, replicate, sym, ap, ap₂, ◌∙◌, subst, arith}
-use Rattle.std.specs.Prelude.{slice_index_or}
 use Rattle.std.proofs.lemmas.List.{get_or_default, get_or_append_left, get_or-take, get_or-drop, length-take-le, length-drop, length-append, same_lists}
 use Rattle.dsc_base.specs.Edits.{ApartFrom}
 use Rattle.dsc_base.specs.Region.{region_start, paged}
@@ -17,11 +16,11 @@ use Rattle.cache_layout.specs.Layouts.{layout_of}
 use Rattle.cache_layout.specs.Apart.{IsSegment, move_at}
 use Rattle.cache_layout.proofs.RoomLaws.{paged-covers}
 use Rattle.cache_layout.proofs.SoundLaws.{sound_linkedit}
-use Rattle.load_model.specs.Mapped.{flat, cached_image}
+use Rattle.load_model.specs.Mapped.{cached_image}
 use Rattle.ref_rewrite.specs.Pages.{pages_of}
 use Rattle.ref_rewrite.proofs.HomeLaws.{bytes_fit, header_fits, two_segments}
 use Rattle.cache_build.specs.Cache.{header_of, cache_of}
-use Rattle.cache_build.proofs.BuildableSets.{IsBuildable, set_edits, set_slide, set_start, set_span, set_spots, plain_of, slid_of}
+use Rattle.cache_build.proofs.BuildableSets.{IsBuildable, set_edits, set_slide, set_start, set_span, set_spots, slid_of}
 use Rattle.cache_build.proofs.CacheFacts.{HasEdits, IsCache, moved_in}
 use Rattle.cache_build.proofs.MovedSpots.{own_moves, own_spots, own_fields, can_move_each, span_low}
 use Rattle.cache_build.proofs.PlacedImages.{IsHeld, held_at, there_at, start_behind, image_placed}

@@ -1,9 +1,6 @@
 -- Each image of a set that can be built is found in its cache, with the shape and the exports of its file.
-use Rattle.std.proofs.Common.{◌≡◌, ◌≤◌, ◌<◌, ℕ, ◌+◌, false, None, List, length, get_or, sym, ap, subst, arith}
-use Rattle.std.proofs.lemmas.List.{get_or_default}
-use Rattle.dsc_base.specs.Region.{paged}
+use Rattle.std.proofs.Common.{◌≡◌, ◌<◌, ℕ, None, List, length, get_or, sym, ap, subst, arith}
 use Rattle.macho_image.specs.Records.{Seg, Img}
-use Rattle.macho_image.specs.Rules.{is_linkedit_segment}
 use Rattle.macho_image.specs.Breaks.{IsSound}
 use Rattle.macho_image.specs.declared.place.Moved.{Moved}
 use Rattle.cache_layout.specs.Layouts.{layout_of, layout_break}

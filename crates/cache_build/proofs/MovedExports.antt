@@ -1,5 +1,5 @@
 -- The export trie of an image in the cache: it breaks no rule, and its exports lead to the same places as those of the file.
-use Rattle.std.proofs.Common.{◌≡◌, ◌≤◌, ◌<◌, ℕ, ◌+◌, ◌-◌, ◌*◌, Option, Some, None, List, [], ◌∷◌, take, drop, length, get_or, refl, sym, ap, ◌∙◌, subst, arith, inl, inr}
+use Rattle.std.proofs.Common.{◌≡◌, ◌≤◌, ◌<◌, ℕ, ◌+◌, ◌-◌, ◌*◌, Option, Some, None, List, [], take, drop, length, get_or, refl, sym, ap, ◌∙◌, subst, arith, inl, inr}
 use Rattle.std.specs.Prelude.{slice_get}
 use Rattle.std.proofs.lemmas.Bool.{cases_lt}
 use Rattle.std.proofs.lemmas.List.{get_or_default, get_or-take, get_or-drop, length-take-le, length-drop, same_lists}
@@ -15,7 +15,7 @@ use Rattle.nlist_table.specs.Symbols.{tables_of}
 use Rattle.export_trie.specs.Exports.{tree_exports, exports_of}
 use Rattle.export_trie.specs.Order.{trie_break}
 use Rattle.export_trie.specs.declared.export.Export.{Export}
-use Rattle.prebind.specs.Sets.{lists_of, streams_break}
+use Rattle.prebind.specs.Sets.{streams_break}
 use Rattle.prebind.proofs.SetLaws.{streams_of_image}
 use Rattle.linkedit_merge.specs.Exports.{moved_exports}
 use Rattle.linkedit_merge.specs.Linkedit.{parts_of, linkedit_of, linkedit_size, spots_in}

@@ -1,5 +1,5 @@
 -- The headers of accepted images can be moved: each finds its streams and tables low in the file, in the merged linkedit.
-use Rattle.std.proofs.Common.{◌≡◌, ◌≤◌, ◌<◌, ℕ, zero, suc, ◌+◌, ◌*◌, ◌^◌, false, None, List, [], length, map, get_or, refl, sym, ap, ◌∙◌, subst, arith}
+use Rattle.std.proofs.Common.{◌≡◌, ◌≤◌, ◌<◌, ℕ, zero, suc, ◌+◌, ◌^◌, false, None, List, [], length, map, get_or, refl, sym, ap, ◌∙◌, subst, arith}
 use Rattle.std.specs.Prelude.{slice_index_or}
 use Rattle.std.proofs.lemmas.List.{length-map, get_or-map, get_or_default, get_or_past}
 use Rattle.std.proofs.lemmas.Option.{slice_get_read}
@@ -10,7 +10,7 @@ use Rattle.macho_image.specs.Rules.{is_linkedit_segment}
 use Rattle.macho_edit.specs.declared.spots.LinkSpots.{LinkSpots}
 use Rattle.macho_edit.specs.Conditions.{CanMove, FitFields}
 use Rattle.macho_edit.specs.Placed.{AreLinked}
-use Rattle.nlist_table.specs.Symbols.{Tabs, tables_of}
+use Rattle.nlist_table.specs.Symbols.{tables_of}
 use Rattle.nlist_table.specs.Kept.{AreTables, EachGroup}
 use Rattle.nlist_table.proofs.KeptLaws.{image_tables}
 use Rattle.cache_layout.specs.Layouts.{layout_of, layout_break}

@@ -51,10 +51,12 @@ seated_there b spots [] ss g m s to from other = absurd (cc)
 seated_there b spots (n ∷ ns) [] g m s to from other = absurd (cc)
 seated_there b spots (n ∷ ns) (t ∷ ts) zero m s to from other =
     let same : t ≡ s = same_Some t s from in
-    let place = place_other spots n t.name t.vmsize (ap (λ (x : Seg). is_linkedit_segment x) same ∙ other) in
-    (seated b (place_for spots n t.name t.vmsize) t, refl,
-    ap (λ (p : SegmentPlace). p.address) place ∙ ap (λ (x : Moved). x.address) (same_Some n m to),
-    ap (λ (p : SegmentPlace). p.vmsize) place ∙ ap (λ (x : Seg). x.vmsize) same)
+    let place = place_other spots n t.name t.vmsize (ap (λ (x : Seg). is_linkedit_segment x) same ∙ other) in (
+      seated b (place_for spots n t.name t.vmsize) t,
+      refl,
+      ap (λ (p : SegmentPlace). p.address) place ∙ ap (λ (x : Moved). x.address) (same_Some n m to),
+      ap (λ (p : SegmentPlace). p.vmsize) place ∙ ap (λ (x : Seg). x.vmsize) same,
+    )
 seated_there b spots (n ∷ ns) (t ∷ ts) (suc g) m s to from other = seated_there b spots ns ts g m s to from other
 
 moved_there : (image : Img) (moves : List Moved) (spots : LinkSpots) (b : List ℕ) (g : ℕ) (m : Moved) (s : Seg) → slice_get moves g ≡ Some m → slice_get image.segments g ≡ Some s → is_linkedit_segment s ≡ false

@@ -1,6 +1,5 @@
 -- Each image of a set that can be built is placed in its cache: its segments stand in the file, apart from each other and from the linkedit.
 use Rattle.std.proofs.Common.{◌≡◌, ◌≤◌, ◌<◌, ◌⊎◌, inl, inr, ℕ, ◌+◌, ◌%◌, false, None, List, length, map, get_or, sym, subst, arith}
-use Rattle.std.specs.Prelude.{slice_index_or}
 use Rattle.std.proofs.lemmas.List.{get_or_default, get_or-map}
 use Rattle.dsc_base.specs.Region.{region_start, paged}
 use Rattle.macho_image.specs.Records.{Seg, Img}
