@@ -1,5 +1,5 @@
 -- Sets of images that break no rule, and the parts of their caches.
-use Rattle.std.proofs.Common.{◌≡◌, ◌≤◌, ◌<◌, ℕ, ◌+◌, ◌%◌, ◌^◌, Some, None, List, length, map, get_or}
+use Rattle.std.proofs.Common.{◌≡◌, ◌≤◌, ◌<◌, ℕ, ◌+◌, ◌%◌, ◌^◌, Some, None, List, [], length, map, get_or}
 use Rattle.std.specs.Prelude.{slice_get, nat_eq, if◌then◌else◌}
 use Rattle.std.specs.List.{list_any}
 use Rattle.dsc_base.specs.declared.edits.Edit.{Edit}
@@ -7,6 +7,7 @@ use Rattle.dsc_base.specs.Edits.{put_all}
 use Rattle.dsc_base.specs.Region.{paged, padded}
 use Rattle.macho_image.specs.declared.form.Form.TheVariants.{Standalone}
 use Rattle.macho_image.specs.Records.{Seg, Img}
+use Rattle.macho_image.specs.Macho.{commands_of, command_where, is_dyld_info}
 use Rattle.macho_image.specs.Breaks.{form_of}
 use Rattle.macho_image.specs.TableRules.{table_break}
 use Rattle.macho_edit.specs.declared.spots.LinkSpots.{LinkSpots}
@@ -48,6 +49,8 @@ pub record IsAccepted (is : List Img) : Type 0 where
   pub words : AreUnbroken (place_break (image_set is)) (length is)
   pub layout : layout_break is ≡ None
   pub bytes : (k g : ℕ) (i : Img) (s : Seg) → IsSegment is k g i s → (n : ℕ) → get_or s.bytes n 0 < 256
+  -- an image has no exports where its header has no command that names them
+  pub named : (k : ℕ) (i : Img) → k < length is → i ≡ get_or is k i → command_where is_dyld_info (commands_of i.header) ≡ None → i.streams.exports ≡ []
 
 -- ---- what their words become
 

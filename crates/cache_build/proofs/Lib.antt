@@ -8,8 +8,10 @@ pub mod ByteLaws
 pub mod CacheFacts
 pub mod CacheLaws
 pub mod CacheTheorem
+pub mod CachedHeaders
 pub mod CachedImages
 pub mod CachedSegments
+pub mod CachedSets
 pub mod CachedWords
 pub mod ChainedWords
 pub mod DataBytes
@@ -23,10 +25,14 @@ pub mod LedWords
 pub mod LinkLaws
 pub mod MappedWords
 pub mod Memberships
+pub mod MovedExports
 pub mod MovedLaws
+pub mod MovedSpots
+pub mod MovedTargets
 pub mod OtherBytes
 pub mod OwnWords
 pub mod PartLaws
+pub mod PlacedImages
 pub mod PlacedSets
 pub mod PlacesApart
 pub mod PlanHeaders

@@ -15,3 +15,6 @@ pub mod ReadLaws
 pub mod Rows
 pub mod LeadLaws
 pub mod StartLaws
+pub mod AcceptedTries
+pub mod SpanLaws
+pub mod TrieLaws

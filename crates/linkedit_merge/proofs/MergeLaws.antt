@@ -1,8 +1,8 @@
 -- The parts of the shares are those that are put, with the same size.
-use Rattle.std.proofs.Common.{◌≡◌, ◌≤◌, ◌<◌, ℕ, ◌+◌, List, [], ◌∷◌, ◌++◌, length, map, get_or, refl, sym, ap, ap₂, ◌∙◌, arith, subst, Option, Some, None}
-use Rattle.std.specs.Prelude.{nat_lt, Result, Ok, Err}
+use Rattle.std.proofs.Common.{◌≡◌, ◌≤◌, ◌<◌, ℕ, ◌+◌, List, [], ◌∷◌, ◌++◌, length, map, get_or, refl, sym, ap, ap₂, ◌∙◌, arith, subst, Option, Some, None, Bool, true, false}
+use Rattle.std.specs.Prelude.{nat_lt, if◌then◌else◌, Result, Ok, Err}
 use Rattle.std.specs.Result.{IsErrAnd}
-use Rattle.std.proofs.lemmas.Bool.{cond-true, cond-false, lt-ltb, le-ltb}
+use Rattle.std.proofs.lemmas.Bool.{cond-true, cond-false, lt-ltb, le-ltb, ltb-false}
 use Rattle.dsc_base.specs.Limits.{span_limit}
 use Rattle.dsc_base.specs.Region.{paged}
 use Rattle.dsc_base.specs.Refusals.{IsSetRefusal, RefusesSet}
@@ -110,6 +110,15 @@ pub fits_where : (layout : Laid) (slide : ℕ) (shares : List Share) → linkedi
 unfolding merge_break
 fits_where layout slide shares below =
     cond-false (nat_lt span_limit (linkedit_start layout slide + paged (linkedit_size shares))) (Some too_large) None (le-ltb span_limit (linkedit_start layout slide + paged (linkedit_size shares)) below)
+
+-- and the other way
+pub unbroken_fits : (layout : Laid) (slide : ℕ) (shares : List Share) → merge_break layout slide shares ≡ None → linkedit_start layout slide + paged (linkedit_size shares) ≤ span_limit
+unfolding merge_break
+unbroken_fits layout slide shares none = ltb-false span_limit (linkedit_start layout slide + paged (linkedit_size shares)) (clear (nat_lt span_limit (linkedit_start layout slide + paged (linkedit_size shares))) none)
+  where
+    clear : (b : Bool) → if◌then◌else◌ {A = Option Break} b (Some too_large) None ≡ None → b ≡ false
+    clear true is = absurd (cc)
+    clear false is = refl
 
 page_covers : (n : ℕ) → n ≤ paged n
 unfolding paged

@@ -66,7 +66,7 @@ pooled_all shares =
 many_streams : (shares : List Share) → length (flat_map streams_in shares) ≡ 5 * length shares
 many_streams shares = length-flat_map streams_in shares ∙ sum_each (λ (share : Share). length (streams_in share)) 5 shares (λ share. refl)
 
-many_parts : (shares : List Share) → length (parts_of shares) ≡ 5 * length shares + 3
+pub many_parts : (shares : List Share) → length (parts_of shares) ≡ 5 * length shares + 3
 unfolding parts_of
 many_parts shares = omega (arith, length-append (flat_map streams_in shares) (tables_in (pool_of shares) shares), many_streams shares)
 
@@ -85,7 +85,7 @@ shared_part shares j =
     ap (λ (n : ℕ). get_or (flat_map streams_in shares ++ tables_in (pool_of shares) shares) (n + j) []) (sym (many_streams shares))
     ∙ get_or-append-add (flat_map streams_in shares) (tables_in (pool_of shares) shares) j []
 
-own_read : (start : ℕ) (shares : List Share) (k j : ℕ) (share : Share) → k < length shares → get_or shares k share ≡ share → j < 5
+pub own_read : (start : ℕ) (shares : List Share) (k j : ℕ) (share : Share) → k < length shares → get_or shares k share ≡ share → j < 5
     → bytes_in start (linkedit_of shares) (span_of start (lens_of (parts_of shares)) (5 * k + j)) ≡ get_or (streams_in share) j []
 unfolding linkedit_of
 own_read start shares k j share within is few =
@@ -108,7 +108,7 @@ range_by : (b : Bool) (start at len : ℕ) → nat_eq len 0 ≡ b
 range_by true start at len none = let zero = eqb-true len 0 none in (sym zero, λ some. omega arith)
 range_by false start at len some = (refl, λ _. omega arith)
 
-shared_range : (start : ℕ) (shares : List Share) (j : ℕ) → j < 3 → IsRange start (get_or (tables_in (pool_of shares) shares) j []) (span_of start (lens_of (parts_of shares)) (5 * length shares + j))
+pub shared_range : (start : ℕ) (shares : List Share) (j : ℕ) → j < 3 → IsRange start (get_or (tables_in (pool_of shares) shares) j []) (span_of start (lens_of (parts_of shares)) (5 * length shares + j))
 unfolding span_behind
 shared_range start shares j few =
     let parts = parts_of shares in
