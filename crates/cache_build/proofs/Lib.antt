@@ -4,11 +4,17 @@ pub mod BelongLaws
 pub mod BuildLaws
 pub mod BuildableSets
 pub mod ByteLaws
+pub mod CacheBytes
 pub mod CacheFacts
+pub mod CacheHeads
 pub mod CacheLaws
+pub mod CacheParts
+pub mod CachePlaces
 pub mod CachedImages
+pub mod CachedPages
 pub mod CachedSegments
 pub mod DataBytes
+pub mod EditedRanges
 pub mod ExportLaws
 pub mod FitsLaws
 pub mod GatherLaws
@@ -16,6 +22,7 @@ pub mod HeadFacts
 pub mod HeadLaws
 pub mod LedPointers
 pub mod LinkLaws
+pub mod MappingBytes
 pub mod MovedLaws
 pub mod OwnWords
 pub mod PartLaws
@@ -30,9 +37,11 @@ pub mod SectionLaws
 pub mod SegmentPages
 pub mod SetPointerLaws
 pub mod SetPointers
+pub mod SlidCaches
 pub mod SlideSizes
 pub mod SpanLaws
 pub mod TargetLaws
 pub mod Theorem
+pub mod ToldCaches
 pub mod WholeCaches
 pub mod WholePages
