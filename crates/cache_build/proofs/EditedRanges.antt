@@ -17,64 +17,11 @@ use Rattle.slide_chain.specs.Linked.{raised}
 use Rattle.slide_chain.proofs.LinkedLaws.{raised-inside, length-linked_data, edit-byte, other-byte}
 use Rattle.ref_rewrite.specs.Plans.{IsInside}
 use Rattle.ref_rewrite.specs.Rewritten.{edits_in}
-use Rattle.ref_rewrite.proofs.RewrittenLaws.{edits_inside}
-use Rattle.ref_rewrite.specs.Rewritten.{lies_in}
-use Rattle.std.proofs.lemmas.Bool.{and_parts, leb-true}
-use Rattle.std.proofs.Common.{filter, cond, nat_le}
-use Rattle.std.proofs.lemmas.Bool.{and_from, le-leb}
+use Rattle.ref_rewrite.proofs.RewrittenLaws.{edits_inside, edits_clear, edits_apart, among_in}
 use Rattle.cache_build.proofs.BuildableSets.{IsAccepted, set_edits, set_chained, set_mapping, set_range, slid_range, slid_value}
 use Rattle.cache_build.proofs.CacheFacts.{HasEdits}
 use Rattle.cache_build.proofs.CachePlaces.{in_turn}
 use Rattle.cache_build.proofs.CacheParts.{AreRanges, linked_part, slid_part, length-mapping}
-
--- TEMPORARY
-inside : (s : Span) (at n : ℕ) → lies_in s at n ≡ true → IsInside s at n
-inside s at n is =
-    let parts : (nat_le s.at at ≡ true) × (nat_le (at + n) (s.at + s.len) ≡ true) = and_parts (nat_le s.at at) (nat_le (at + n) (s.at + s.len)) is in
-    (leb-true s.at at parts.0, leb-true (at + n) (s.at + s.len) parts.1)
-
-edits_clear : (s : Span) (es : List Edit) (at w : ℕ) → s.at ≤ at → ApartFrom at w es → ApartFrom (at - s.at) w (edits_in s es)
-edits_clear s [] at w le clear = tt
-edits_clear s (e ∷ es) at w le clear =
-    let shift : Edit → Edit = λ x. record { at = x.at - s.at; width = x.width; value = x.value } in
-    let rest : List Edit = filter (λ x. lies_in s x.at x.width) es in
-    elim (lies_in s e.at e.width) as (λ t. lies_in s e.at e.width ≡ t → ApartFrom (at - s.at) w (map shift (cond t (e ∷ rest) rest))) [
-      | true ↦ λ is.
-          let within : IsInside s e.at e.width = inside s e.at e.width is in
-          (elim clear.0 [ inl before ↦ inl (omega (arith, within.0)) | inr behind ↦ inr (omega (arith, within.0)) ], edits_clear s es at w le clear.1)
-      | false ↦ λ is. edits_clear s es at w le clear.1
-    ] refl
-
-edits_apart : (s : Span) (es : List Edit) → AllApart es → AllApart (edits_in s es)
-edits_apart s [] apart = tt
-edits_apart s (e ∷ es) apart =
-    let shift : Edit → Edit = λ x. record { at = x.at - s.at; width = x.width; value = x.value } in
-    let rest : List Edit = filter (λ x. lies_in s x.at x.width) es in
-    elim (lies_in s e.at e.width) as (λ t. lies_in s e.at e.width ≡ t → AllApart (map shift (cond t (e ∷ rest) rest))) [
-      | true ↦ λ is.
-          let within : IsInside s e.at e.width = inside s e.at e.width is in
-          (edits_clear s es e.at e.width within.0 apart.0, edits_apart s es apart.1)
-      | false ↦ λ is. edits_apart s es apart.1
-    ] refl
-
--- an edit that lies in the span is among those in it
-lies : (s : Span) (at n : ℕ) → IsInside s at n → lies_in s at n ≡ true
-lies s at n within = and_from (nat_le s.at at) (nat_le (at + n) (s.at + s.len)) (le-leb s.at at within.0) (le-leb (at + n) (s.at + s.len) within.1)
-
-among_in : (s : Span) (x : Edit) (es : List Edit) → IsInside s x.at x.width → IsAmong x es → IsAmong (record { at = x.at - s.at; width = x.width; value = x.value }) (edits_in s es)
-among_in s x [] within among = absurd among
-among_in s x (e ∷ es) within (inl is) =
-    let shift : Edit → Edit = λ y. record { at = y.at - s.at; width = y.width; value = y.value } in
-    let rest : List Edit = filter (λ y. lies_in s y.at y.width) es in
-    let test : lies_in s e.at e.width ≡ true = subst (λ (y : Edit). lies_in s y.at y.width ≡ true) is (lies s x.at x.width within) in
-    subst (λ (t : Bool). IsAmong (shift x) (map shift (cond t (e ∷ rest) rest))) (sym test) (inl (ap shift is))
-among_in s x (e ∷ es) within (inr later) =
-    let shift : Edit → Edit = λ y. record { at = y.at - s.at; width = y.width; value = y.value } in
-    let rest : List Edit = filter (λ y. lies_in s y.at y.width) es in
-    let there : IsAmong (shift x) (edits_in s es) = among_in s x es within later in
-    elim (lies_in s e.at e.width) as (λ t. IsAmong (shift x) (map shift (cond t (e ∷ rest) rest))) [ true ↦ inr there | false ↦ there ]
-
--- END
 
 -- the edits of a range
 abbrev range_edits : List Img → Mapping → List Edit
