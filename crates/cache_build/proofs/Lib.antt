@@ -11,9 +11,13 @@ pub mod CachedSegments
 pub mod DataBytes
 pub mod ExportLaws
 pub mod FitsLaws
+pub mod GatherFills
 pub mod GatherLaws
+pub mod GatherRooms
+pub mod GatheredSets
 pub mod HeadFacts
 pub mod HeadLaws
+pub mod HeadRooms
 pub mod LedPointers
 pub mod LinkLaws
 pub mod MovedLaws
