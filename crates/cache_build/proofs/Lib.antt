@@ -11,6 +11,7 @@ pub mod CachedSegments
 pub mod DataBytes
 pub mod ExportLaws
 pub mod FitsLaws
+pub mod FreeBits
 pub mod GatherFills
 pub mod GatherLaws
 pub mod GatherRooms
@@ -27,6 +28,7 @@ pub mod PlacedSets
 pub mod PlacesApart
 pub mod PlanHeaders
 pub mod PointerSets
+pub mod PreparedSets
 pub mod Protections
 pub mod ReadSets
 pub mod RunLaws
@@ -34,7 +36,9 @@ pub mod SectionLaws
 pub mod SegmentPages
 pub mod SetPointerLaws
 pub mod SetPointers
+pub mod SizedPages
 pub mod SlideSizes
+pub mod SoundIdentifiers
 pub mod SpanLaws
 pub mod TargetLaws
 pub mod Theorem
