@@ -88,7 +88,7 @@ second_refused bits l set n words (Broken b) none size are found =
     ∙ ap (λ (o : Option Break). option_or o rest) (sym (ap₂ (λ (k : ℕ) (ws : List ℕ). chains_break bits k ws) size are) ∙ found)
 second_refused bits l set n words Memory none size are found = tt
 
-merge_same : (bits : ℕ) (l : Laid) (set : ImageSet) (tables : List Tabs) (slide : ℕ) → tables ≡ map tables_of set.images → slide ≡ length (slide_bytes bits l set)
+pub merge_same : (bits : ℕ) (l : Laid) (set : ImageSet) (tables : List Tabs) (slide : ℕ) → tables ≡ map tables_of set.images → slide ≡ length (slide_bytes bits l set)
     → merge_break l slide (shares_of set.images tables l.moves) ≡ merge_break l (length (slide_bytes bits l set)) (shares_in l set.images)
 merge_same bits l set tables slide are size = ap₂ (λ (s : ℕ) (ts : List Tabs). merge_break l s (shares_of set.images ts l.moves)) size are
 

@@ -23,9 +23,14 @@ pub mod DataBytes
 pub mod EditedRanges
 pub mod ExportLaws
 pub mod FitsLaws
+pub mod FreeBits
+pub mod GatherFills
 pub mod GatherLaws
+pub mod GatherRooms
+pub mod GatheredSets
 pub mod HeadFacts
 pub mod HeadLaws
+pub mod HeadRooms
 pub mod LedPointers
 pub mod LedWords
 pub mod LinkLaws
@@ -44,6 +49,7 @@ pub mod PlacedSets
 pub mod PlacesApart
 pub mod PlanHeaders
 pub mod PointerSets
+pub mod PreparedSets
 pub mod Protections
 pub mod ReadSets
 pub mod RunLaws
@@ -52,8 +58,10 @@ pub mod SegmentPages
 pub mod SetPointerLaws
 pub mod SetPointers
 pub mod SetWords
+pub mod SizedPages
 pub mod SlidCaches
 pub mod SlideSizes
+pub mod SoundIdentifiers
 pub mod SpanLaws
 pub mod TargetLaws
 pub mod TargetPlaces

@@ -5,6 +5,7 @@ mod assemble;
 mod builder;
 mod filling;
 mod frame;
+mod gathering;
 mod head;
 mod headers;
 mod planned;
