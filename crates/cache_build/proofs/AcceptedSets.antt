@@ -9,7 +9,7 @@ use Rattle.dsc_base.specs.declared.rule.Rule.TheVariants.{ExportOutside}
 use Rattle.dsc_base.specs.Refusals.{broken, in_image, in_each}
 use Rattle.macho_image.specs.declared.form.Form.TheVariants.{Standalone}
 use Rattle.macho_image.specs.Records.{Img}
-use Rattle.macho_image.specs.Macho.{header_in, image_of, image_from}
+use Rattle.macho_image.specs.Macho.{header_in, image_of, image_from, commands_of, command_where, is_dyld_info}
 use Rattle.macho_image.specs.Rules.{breaks_wrong_kind}
 use Rattle.macho_image.specs.Breaks.{form_of}
 use Rattle.macho_image.specs.Segments.{segments_at}
@@ -29,6 +29,7 @@ use Rattle.linkedit_merge.specs.Linkedit.{merge_break}
 use Rattle.cache_build.specs.Breaks.{behind_layout}
 use Rattle.cache_build.proofs.BuildableSets.{IsAccepted, IsBuildable, set_chained, set_slide, set_shares}
 use Rattle.cache_build.proofs.ByteLaws.{segment_bytes}
+use Rattle.cache_build.proofs.MovedExports.{unnamed_none}
 
 -- files are bytes
 abbrev pub AreFiles : List (List ℕ) → Type 0
@@ -47,6 +48,18 @@ standalone files none k i lt at =
     let is : i ≡ image_of f 0 = at ∙ get_or-map (λ (g : List ℕ). image_of g 0) files k [] i inside in
     ap (λ (j : Img). form_of j.header) is ∙ alone f (kind_unbroken Standalone (header_in f 0) unbroken.kind).kind
 
+unnamed : (f : List ℕ) → command_where is_dyld_info (commands_of (image_of f 0).header) ≡ None → (image_of f 0).streams.exports ≡ []
+unfolding image_from
+unnamed f none = unnamed_none f (header_in f 0) none
+
+-- an image has no exports where its header has no command that names them
+named : (files : List (List ℕ)) (k : ℕ) (i : Img) → k < length (images_of files) → i ≡ get_or (images_of files) k i → command_where is_dyld_info (commands_of i.header) ≡ None → i.streams.exports ≡ []
+named files k i lt at none =
+    let inside : k < length files = omega (arith, lt, length-map files (λ (f : List ℕ). image_of f 0)) in
+    let f : List ℕ = get_or files k [] in
+    let is : i ≡ image_of f 0 = at ∙ get_or-map (λ (g : List ℕ). image_of g 0) files k [] i inside in
+    ap (λ (j : Img). j.streams.exports) is ∙ unnamed f (sym (ap (λ (j : Img). command_where is_dyld_info (commands_of j.header)) is) ∙ none)
+
 pub accepted_set : (files : List (List ℕ)) → length files ≤ 4096 → AreFiles files → files_break files ≡ None → layout_break (images_of files) ≡ None → IsAccepted (images_of files)
 accepted_set files few bytes none fits =
     let accepted : AreAccepted files = accepted_files files none in
@@ -55,6 +68,7 @@ accepted_set files few bytes none fits =
       few = omega (arith, few, long);
       sound = λ k d lt. sound_images 0 files accepted.shapes k d lt;
       alone = standalone files accepted.shapes;
+      named = named files;
       streams = accepted.streams;
       tables = accepted.tables;
       set = sound_set (images_of files) (omega (arith, few, long)) accepted.streams accepted.linked;
