@@ -1,5 +1,5 @@
 -- What is shown of the cache of a set that breaks no rule: its size, what its head says, and its bytes in the file and in memory.
-use Rattle.std.proofs.Common.{◌≡◌, ◌≤◌, ◌<◌, ℕ, ◌+◌, ◌-◌, false, List, ◌++◌, length, get_or, ap, ap₂, ◌∙◌, sym, subst, arith}
+use Rattle.std.proofs.Common.{◌≡◌, ◌<◌, ℕ, ◌+◌, ◌-◌, false, List, length, get_or, ap, ◌∙◌, sym, subst, arith}
 use Rattle.dsc_base.specs.declared.edits.Edit.{Edit}
 use Rattle.dsc_base.specs.Numbers.{little_bytes}
 use Rattle.dsc_base.specs.Edits.{ApartFrom, IsAmong}
@@ -16,7 +16,7 @@ use Rattle.ref_rewrite.specs.Pages.{pages_of}
 use Rattle.ref_rewrite.specs.Plans.{IsInside}
 use Rattle.linkedit_merge.specs.Linkedit.{linkedit_of}
 use Rattle.cache_build.specs.Cache.{header_of}
-use Rattle.cache_build.proofs.BuildableSets.{IsAccepted, IsBuildable, set_edits, set_shares, set_start, set_span, set_spots, set_pages, set_mapping, set_head, plain_of, slid_of, slid_value}
+use Rattle.cache_build.proofs.BuildableSets.{IsBuildable, set_edits, set_shares, set_start, set_span, set_spots, set_pages, set_mapping, set_head, plain_of, slid_of, slid_value}
 use Rattle.cache_build.proofs.CacheFacts.{HasEdits, IsCache}
 use Rattle.cache_build.proofs.CachePlaces.{span_low}
 use Rattle.cache_build.proofs.CachedPages.{sized, pages_are, pages_whole, length-pages}

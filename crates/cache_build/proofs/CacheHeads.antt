@@ -1,12 +1,12 @@
 -- The head of a cache: it can be written, its numbers fit, and it ends in the pages that the layout leaves for it.
-use Rattle.std.proofs.Common.{◌≡◌, ◌≤◌, ◌<◌, ℕ, zero, suc, ◌+◌, ◌-◌, Bool, true, false, cond, Option, Some, None, List, [], ◌∷◌, take, drop, length, map, get_or, All, refl, sym, ap, ◌∙◌, subst, arith}
+use Rattle.std.proofs.Common.{◌≡◌, ◌≤◌, ◌<◌, ℕ, zero, suc, ◌+◌, ◌-◌, Bool, true, false, cond, Option, Some, List, [], ◌∷◌, take, drop, length, map, get_or, All, refl, sym, ap, ◌∙◌, subst, arith}
 use Rattle.std.specs.List.{AllByRecursion, sum_by, enumerate_from}
 use Rattle.std.proofs.lemmas.Bool.{eqb-true}
 use Rattle.std.proofs.lemmas.List.{get_or_default, length-take-le, length-drop}
 use Rattle.std.proofs.lemmas.List.Sums.{sum_by-cons}
 use Rattle.dsc_base.specs.Numbers.{number_at}
 use Rattle.dsc_base.specs.Region.{paged, padded}
-use Rattle.macho_image.specs.Records.{Seg, Img}
+use Rattle.macho_image.specs.Records.{Img}
 use Rattle.macho_image.specs.Macho.{number_of, is_uuid, commands_of, command_where, uuid_of}
 use Rattle.macho_image.specs.Rules.{least_size}
 use Rattle.macho_image.specs.Breaks.{IsSound}
@@ -32,7 +32,7 @@ use Rattle.cache_build.specs.Head.{entry_of, head_of}
 use Rattle.cache_build.specs.Fits.{Fits}
 use Rattle.cache_build.proofs.HeadLaws.{no_image, writable_head}
 use Rattle.cache_build.proofs.FitsLaws.{image_fits, no_segment}
-use Rattle.cache_build.proofs.BuildableSets.{IsAccepted, IsBuildable, set_slide, set_shares, set_start, set_span, set_frame, set_head}
+use Rattle.cache_build.proofs.BuildableSets.{IsAccepted, IsBuildable, set_slide, set_start, set_span, set_head}
 use Rattle.cache_build.proofs.CachePlaces.{sound_in, in_turn, span_low, starts_at}
 use Rattle.cache_build.proofs.CachedPages.{length-padded}
 

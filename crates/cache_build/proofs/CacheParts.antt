@@ -1,16 +1,15 @@
 -- The parts of a cache: how long they are, and where each stands in the file.
-use Rattle.std.proofs.Common.{◌≡◌, ◌≤◌, ◌<◌, ℕ, ◌+◌, ◌-◌, List, [], ◌∷◌, ◌++◌, length, get_or, replicate, refl, sym, ap, ap₂, ◌∙◌, arith, inl, inr, length-append, append_assoc}
+use Rattle.std.proofs.Common.{◌≡◌, ◌≤◌, ◌<◌, ℕ, ◌+◌, ◌-◌, List, [], ◌++◌, length, get_or, replicate, refl, sym, ap, ap₂, ◌∙◌, arith, inl, inr, length-append, append_assoc}
 use Rattle.std.proofs.lemmas.Bool.{cases_lt}
 use Rattle.std.proofs.lemmas.List.{get_or-append-add, get_or-append_right}
 use Rattle.std.proofs.Math.ListN.{get_or-append}
 use Rattle.dsc_base.specs.declared.fault.Span.{Span}
-use Rattle.dsc_base.specs.Edits.{put_all}
 use Rattle.dsc_base.specs.Region.{paged, padded}
 use Rattle.macho_image.specs.Records.{Img}
 use Rattle.cache_header.specs.Spelling.{head_bytes}
 use Rattle.cache_layout.specs.declared.mapping.Mapping.{Mapping}
 use Rattle.cache_layout.specs.declared.mapping.Mapping.TheVariants.{Text, Writable, Fixed}
-use Rattle.cache_layout.specs.Layouts.{Laid, layout_of}
+use Rattle.cache_layout.specs.Layouts.{layout_of}
 use Rattle.cache_layout.specs.Apart.{AreInTurn, range_in}
 use Rattle.cache_layout.specs.Parts.{StandsAt}
 use Rattle.cache_layout.proofs.PlaceLaws.{range_in-is}
@@ -24,7 +23,7 @@ use Rattle.linkedit_merge.proofs.PartLaws.{length-joined}
 use Rattle.linkedit_merge.specs.Shares.{Share}
 use Rattle.cache_build.specs.Places.{frame_of}
 use Rattle.cache_build.specs.Cache.{tail_of, cache_from, cache_of}
-use Rattle.cache_build.proofs.BuildableSets.{IsAccepted, IsBuildable, set_edits, set_chained, set_slide, set_shares, set_start, set_span, set_frame, set_pages, set_mapping, set_head, cache_around, plain_of, set_range, slid_range, slid_of}
+use Rattle.cache_build.proofs.BuildableSets.{IsAccepted, IsBuildable, set_edits, set_chained, set_slide, set_shares, set_start, set_span, set_frame, set_pages, set_mapping, set_head, cache_around, set_range, slid_range}
 use Rattle.cache_build.proofs.CachePlaces.{in_turn, starts_at}
 use Rattle.cache_build.proofs.CachedPages.{length-padded, pages_whole}
 use Rattle.cache_build.proofs.CacheHeads.{head_long}

@@ -1,5 +1,5 @@
 -- Where slide information and the merged linkedit of a set stand, and that its cache ends within the limit.
-use Rattle.std.proofs.Common.{◌≡◌, ◌≤◌, ◌<◌, ℕ, ◌+◌, ◌%◌, Bool, true, false, List, length, get_or, subst, sym, refl, arith, nat_lt, if◌then◌else◌, Option, Some, None}
+use Rattle.std.proofs.Common.{◌≡◌, ◌≤◌, ◌<◌, ℕ, ◌+◌, Bool, true, false, List, length, get_or, subst, sym, refl, arith, nat_lt, if◌then◌else◌, Some, None}
 use Rattle.std.proofs.lemmas.Bool.Decides.{nat_tests}
 use Rattle.dsc_base.specs.declared.fault.Break.{Break}
 use Rattle.dsc_base.specs.Region.{paged}

@@ -1,6 +1,6 @@
 -- The pages of each segment of a set in its cache, which are whole, and the header in front of the first one, which is as long as the image's own.
-use Rattle.std.proofs.Common.{◌≡◌, ◌≤◌, ◌<◌, ℕ, zero, suc, ◌+◌, ◌-◌, Option, Some, List, [], ◌++◌, take, drop, length, map, get_or, replicate, refl, sym, ap, ◌∙◌, subst, arith, length-append, length-drop}
-use Rattle.std.specs.Prelude.{slice_get, slice_index_or}
+use Rattle.std.proofs.Common.{◌≡◌, ◌≤◌, ◌<◌, ℕ, zero, suc, ◌+◌, ◌-◌, Option, List, [], ◌++◌, take, drop, length, map, get_or, replicate, refl, sym, ap, ◌∙◌, subst, arith, length-append, length-drop}
+use Rattle.std.specs.Prelude.{slice_index_or}
 use Rattle.std.specs.List.{concat}
 use Rattle.std.proofs.lemmas.List.{length-take-le, length-replicate, get_or-map}
 use Rattle.std.proofs.lemmas.Option.{slice_get_read}

@@ -1,11 +1,11 @@
 -- The ranges of a set with their words set: how long they are, and their bytes in words and apart from all words.
-use Rattle.std.proofs.Common.{◌≡◌, ◌≤◌, ◌<◌, ◌⊎◌, ℕ, ◌+◌, ◌-◌, ◌%◌, ◌^◌, Bool, true, false, ◌||◌, if◌then◌else◌, nat_eq, List, [], ◌∷◌, map, length, get_or, refl, sym, ap, ap₂, ◌∙◌, subst, arith, inl, inr}
+use Rattle.std.proofs.Common.{◌≡◌, ◌≤◌, ◌<◌, ◌⊎◌, ℕ, ◌+◌, ◌-◌, ◌%◌, ◌^◌, Bool, false, ◌||◌, if◌then◌else◌, nat_eq, List, [], ◌∷◌, map, length, get_or, refl, sym, ap, ap₂, ◌∙◌, subst, arith, inl, inr}
 use Rattle.std.specs.List.{list_any}
 use Rattle.std.proofs.lemmas.Bool.{cases_eq, cond-false, eq-eqb, ne_eqb}
 use Rattle.dsc_base.specs.declared.edits.Edit.{Edit}
 use Rattle.dsc_base.specs.declared.fault.Span.{Span}
 use Rattle.dsc_base.specs.Numbers.{little_bytes}
-use Rattle.dsc_base.specs.Edits.{put_all, AllInside, AllApart, ApartFrom, IsAmong}
+use Rattle.dsc_base.specs.Edits.{AllInside, ApartFrom, IsAmong}
 use Rattle.dsc_base.proofs.EditLaws.{length-put_all, get_or-put_all, get_or-put_all_apart}
 use Rattle.macho_image.specs.Records.{Img}
 use Rattle.cache_layout.specs.declared.mapping.Mapping.{Mapping}
@@ -18,7 +18,7 @@ use Rattle.slide_chain.proofs.LinkedLaws.{raised-inside, length-linked_data, edi
 use Rattle.ref_rewrite.specs.Plans.{IsInside}
 use Rattle.ref_rewrite.specs.Rewritten.{edits_in}
 use Rattle.ref_rewrite.proofs.RewrittenLaws.{edits_inside, edits_clear, edits_apart, among_in}
-use Rattle.cache_build.proofs.BuildableSets.{IsAccepted, set_edits, set_chained, set_mapping, set_range, slid_range, slid_value}
+use Rattle.cache_build.proofs.BuildableSets.{IsAccepted, set_edits, set_chained, set_mapping, set_range, slid_value}
 use Rattle.cache_build.proofs.CacheFacts.{HasEdits}
 use Rattle.cache_build.proofs.CachePlaces.{in_turn}
 use Rattle.cache_build.proofs.CacheParts.{AreRanges, linked_part, slid_part, length-mapping}

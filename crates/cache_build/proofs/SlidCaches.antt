@@ -1,15 +1,13 @@
 -- The cache of a set as it is mapped: three mappings, slide information that reads back, and at any slide the bytes with the words of its chains raised.
-use Rattle.std.proofs.Common.{◌≡◌, ◌≤◌, ◌<◌, ℕ, ◌+◌, ◌-◌, Some, List, ◌++◌, take, drop, length, get_or, sym, ap, ap₂, ◌∙◌, arith, append_assoc}
+use Rattle.std.proofs.Common.{◌≡◌, ◌<◌, ℕ, ◌+◌, Some, List, ◌++◌, take, drop, length, get_or, sym, ap, ap₂, ◌∙◌, arith, append_assoc}
 use Rattle.std.proofs.lemmas.List.{length-drop, take_all, take_at, drop_at}
 use Rattle.std.proofs.Math.Seq.{drop-append-add}
 use Rattle.dsc_base.specs.Region.{region_start}
 use Rattle.macho_image.specs.Records.{Img}
 use Rattle.macho_image.specs.Places.{wrap}
 use Rattle.cache_header.specs.Reading.{slide_info_bytes}
-use Rattle.cache_layout.specs.declared.mapping.Mapping.{Mapping}
 use Rattle.cache_layout.specs.declared.mapping.Mapping.TheVariants.{Text, Writable, Fixed}
 use Rattle.cache_layout.specs.Layouts.{Laid, layout_of}
-use Rattle.cache_layout.specs.Parts.{StandsAt}
 use Rattle.cache_layout.proofs.PartLaws.{stands_take}
 use Rattle.slide_chain.specs.Chains.{Slide, slid_area}
 use Rattle.slide_chain.specs.Info.{info_read}
@@ -23,7 +21,7 @@ use Rattle.cache_build.specs.Cache.{cache_of}
 use Rattle.cache_build.proofs.BuildableSets.{IsBuildable, set_edits, set_chained, set_slide, set_span, set_mapping, slid_range, slid_of}
 use Rattle.cache_build.proofs.CacheFacts.{HasEdits}
 use Rattle.cache_build.proofs.CacheHeads.{IsFramed, framed}
-use Rattle.cache_build.proofs.CacheParts.{linked_part, slid_part, AreRanges, length-mapping, cache_parts, set_front, set_tail, length-text, length-around, range_stands, slide_stands}
+use Rattle.cache_build.proofs.CacheParts.{linked_part, AreRanges, length-mapping, cache_parts, set_front, set_tail, length-text, length-around, range_stands, slide_stands}
 use Rattle.cache_build.proofs.MappingBytes.{data_bytes}
 use Rattle.cache_build.proofs.ToldCaches.{rest_of, mappings_is, slide_there}
 use Rattle.cache_build.proofs.EditedRanges.{length-linked, length-slid}

@@ -1,5 +1,5 @@
 -- What the head of a set's cache says: its images, its mappings, where its slide information stands, and how far it can slide.
-use Rattle.std.proofs.Common.{◌≡◌, ◌≤◌, ◌<◌, ℕ, ◌+◌, ◌-◌, List, [], ◌++◌, take, drop, length, get_or, replicate, sym, ap, ◌∙◌, arith}
+use Rattle.std.proofs.Common.{◌≡◌, ◌<◌, ℕ, ◌+◌, ◌-◌, List, [], ◌++◌, take, drop, length, get_or, replicate, sym, ap, ◌∙◌, arith}
 use Rattle.dsc_base.specs.Region.{region_size}
 use Rattle.macho_image.specs.Records.{Img}
 use Rattle.cache_header.specs.Records.{Entry}
