@@ -116,7 +116,7 @@ edits_clear s (e ∷ es) at w le clear =
       | false ↦ λ is. edits_clear s es at w le clear.1
     ] refl
 
-edits_apart : (s : Span) (es : List Edit) → AllApart es → AllApart (edits_in s es)
+pub edits_apart : (s : Span) (es : List Edit) → AllApart es → AllApart (edits_in s es)
 edits_apart s [] apart = tt
 edits_apart s (e ∷ es) apart =
     let shift : Edit → Edit = λ x. record { at = x.at - s.at; width = x.width; value = x.value } in
@@ -128,7 +128,7 @@ edits_apart s (e ∷ es) apart =
       | false ↦ λ is. edits_apart s es apart.1
     ] refl
 
-edits_fit : (s : Span) (es : List Edit) → AllFit es → AllFit (edits_in s es)
+pub edits_fit : (s : Span) (es : List Edit) → AllFit es → AllFit (edits_in s es)
 edits_fit s [] fit = tt
 edits_fit s (e ∷ es) fit =
     let shift : Edit → Edit = λ x. record { at = x.at - s.at; width = x.width; value = x.value } in
@@ -142,7 +142,7 @@ edits_fit s (e ∷ es) fit =
 lies : (s : Span) (at n : ℕ) → IsInside s at n → lies_in s at n ≡ true
 lies s at n within = and_from (nat_le s.at at) (nat_le (at + n) (s.at + s.len)) (le-leb s.at at within.0) (le-leb (at + n) (s.at + s.len) within.1)
 
-among_in : (s : Span) (x : Edit) (es : List Edit) → IsInside s x.at x.width → IsAmong x es → IsAmong (record { at = x.at - s.at; width = x.width; value = x.value }) (edits_in s es)
+pub among_in : (s : Span) (x : Edit) (es : List Edit) → IsInside s x.at x.width → IsAmong x es → IsAmong (record { at = x.at - s.at; width = x.width; value = x.value }) (edits_in s es)
 among_in s x [] within among = absurd among
 among_in s x (e ∷ es) within (inl is) =
     let shift : Edit → Edit = λ y. record { at = y.at - s.at; width = y.width; value = y.value } in
