@@ -8,12 +8,16 @@ pub mod CacheFacts
 pub mod CacheLaws
 pub mod CachedImages
 pub mod CachedSegments
+pub mod ChainedEdits
 pub mod DataBytes
+pub mod EditedWords
 pub mod ExportLaws
 pub mod FitsLaws
 pub mod GatherLaws
 pub mod HeadFacts
 pub mod HeadLaws
+pub mod ImageWords
+pub mod JoinedEdits
 pub mod LedPointers
 pub mod LinkLaws
 pub mod MovedLaws
@@ -25,9 +29,11 @@ pub mod PlanHeaders
 pub mod PointerSets
 pub mod Protections
 pub mod ReadSets
+pub mod RebaseTargets
 pub mod RunLaws
 pub mod SectionLaws
 pub mod SegmentPages
+pub mod SetEdits
 pub mod SetPointerLaws
 pub mod SetPointers
 pub mod SlideSizes
@@ -36,3 +42,5 @@ pub mod TargetLaws
 pub mod Theorem
 pub mod WholeCaches
 pub mod WholePages
+pub mod WordEdits
+pub mod WordNumbers
