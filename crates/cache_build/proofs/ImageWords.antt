@@ -60,13 +60,15 @@ one_of set k i given image =
     let lt : k < length set.images = slice_get_within set.images k i image in
     let at : i ≡ get_or set.images k i = sym (get_or_from_slice_get set.images k i i image) in
     let sound : IsSound i = given.images k i lt at in
-    let has : HasStreams set k i = read_image set k i given.sound image (sound_apart i sound) in
-    (has.streams, record {
-      at = record { none = given.none; lt = lt; at = at; sound = sound };
-      read = has.read;
-      split = given.read k i has.streams image has.read.of.streams_are;
-      streams = ap streams_in has.read.of.streams_are;
-    })
+    let has : HasStreams set k i = read_image set k i given.sound image (sound_apart i sound) in (
+      has.streams,
+      record {
+        at = record { none = given.none; lt = lt; at = at; sound = sound };
+        read = has.read;
+        split = given.read k i has.streams image has.read.of.streams_are;
+        streams = ap streams_in has.read.of.streams_are;
+      },
+    )
 
 -- ---- its pointers
 

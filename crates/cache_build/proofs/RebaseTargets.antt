@@ -21,10 +21,9 @@ use Rattle.macho_image.proofs.HeaderLaws.{text_position}
 use Rattle.macho_image.proofs.SegmentLaws.{inside_some}
 use Rattle.macho_image.proofs.Unbroken.{or_none, broken_none}
 use Rattle.split_info.specs.declared.reference.Reference.{Reference}
-use Rattle.split_info.specs.References.{section_numbered, segment_section, header_section, to_section}
+use Rattle.split_info.specs.References.{section_numbered, segment_section, header_section}
 use Rattle.split_info.specs.Overlap.{is_pointer}
 use Rattle.split_info.specs.Split.{IsReference}
-use Rattle.prebind.specs.declared.resolved.Resolved.TheVariants as outcomes
 use Rattle.prebind.specs.declared.resolved.WordTarget.{WordTarget}
 use Rattle.prebind.specs.declared.resolved.WordTarget.TheVariants.{Place, Constant}
 use Rattle.prebind.specs.Sets.{StreamLists, ImageSet}

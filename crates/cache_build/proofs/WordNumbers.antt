@@ -1,5 +1,5 @@
 -- The numbers of words in a cache: each fits its word, and a pointer that leads to a place has one in the first 512 MiB of the region.
-use Rattle.std.proofs.Common.{◌≡◌, ◌≤◌, ◌<◌, ℕ, ◌+◌, ◌-◌, ◌%◌, ◌^◌, true, false, nat_lt, Option, Some, None, List, [], ◌∷◌, map, refl, sym, ap, ◌∙◌, subst, arith, inl, inr}
+use Rattle.std.proofs.Common.{◌≡◌, ◌≤◌, ◌<◌, ℕ, ◌+◌, ◌%◌, ◌^◌, true, false, nat_lt, Option, Some, None, List, [], ◌∷◌, map, refl, sym, ap, ◌∙◌, subst, arith, inl, inr}
 use Rattle.std.specs.Prelude.{ℤ, slice_get, option_map, position}
 use Rattle.std.specs.List.{enumerate_from}
 use Rattle.dsc_base.specs.declared.fault.Site.{Site}
