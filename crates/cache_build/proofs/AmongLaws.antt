@@ -43,7 +43,7 @@ pub among_given : {X : Type 0} (h : ℕ → X → List Edit) (xs : List X) (k : 
     → IsAmong e (flat_map (λ p. h p.0 p.1) (enumerate_from 0 xs))
 among_given h xs k x e got there = given_from h 0 k xs k x e got (omega arith) there
 
-given_at : {X : Type 0} (h : ℕ → X → List Edit) (n : ℕ) (xs : List X) (e : Edit) → IsAmong e (flat_map (λ p. h p.0 p.1) (enumerate_from n xs)) → IsGiven h n xs e
+pub given_at : {X : Type 0} (h : ℕ → X → List Edit) (n : ℕ) (xs : List X) (e : Edit) → IsAmong e (flat_map (λ p. h p.0 p.1) (enumerate_from n xs)) → IsGiven h n xs e
 given_at h n [] e there = absurd there
 given_at {X} h n (y ∷ ys) e there = elim (among_either e (h n y) (flat_map (λ p. h p.0 p.1) (enumerate_from (n + 1) ys)) there) [
   | inl here ↦ record { number = 0; item = y; item_is = refl; among = subst (λ (j : ℕ). IsAmong e (h j y)) (let same : n ≡ n + 0 = omega arith in same) here }

@@ -18,9 +18,11 @@ pub mod CachedPages
 pub mod CachedSegments
 pub mod CachedSets
 pub mod CachedWords
+pub mod ChainedEdits
 pub mod ChainedWords
 pub mod DataBytes
 pub mod EditedRanges
+pub mod EditedWords
 pub mod ExportLaws
 pub mod FitsLaws
 pub mod FreeBits
@@ -31,6 +33,8 @@ pub mod GatheredSets
 pub mod HeadFacts
 pub mod HeadLaws
 pub mod HeadRooms
+pub mod ImageWords
+pub mod JoinedEdits
 pub mod LedPointers
 pub mod LedWords
 pub mod LinkLaws
@@ -52,9 +56,11 @@ pub mod PointerSets
 pub mod PreparedSets
 pub mod Protections
 pub mod ReadSets
+pub mod RebaseTargets
 pub mod RunLaws
 pub mod SectionLaws
 pub mod SegmentPages
+pub mod SetEdits
 pub mod SetPointerLaws
 pub mod SetPointers
 pub mod SetWords
@@ -69,3 +75,5 @@ pub mod Theorem
 pub mod ToldCaches
 pub mod WholeCaches
 pub mod WholePages
+pub mod WordEdits
+pub mod WordNumbers

@@ -28,7 +28,7 @@ use Rattle.split_info.specs.declared.reference.Reference.{Reference}
 use Rattle.split_info.specs.declared.reference.RefKind.{RefKind}
 use Rattle.split_info.specs.declared.reference.RefKind.TheVariants.{Pointer64, Delta32, Delta64, ImageOff32}
 use Rattle.split_info.specs.References.{width_of}
-use Rattle.split_info.specs.Split.{references_of, spelled_of, reading_break, split_break, IsReference}
+use Rattle.split_info.specs.Split.{references_of, spelled_of, reading_break, split_break, IsReference, AreReferences}
 use Rattle.split_info.specs.Overlap.{overlap_at}
 use Rattle.split_info.proofs.AcceptLaws.{accepted}
 use Rattle.prebind.specs.declared.resolved.PlacedWord.{PlacedWord}
@@ -160,14 +160,17 @@ reference_owned is k i rebases r at is_one =
     let other = section_owned i at.sound is_one.index is_one.section is_one.segment is_one.section_is (ap (λ (g : ℕ). slice_get i.segments g) is_one.in_segment ∙ is_one.segment_is) in
     word_owned is k r.from_segment i is_one.segment r.from (width_of r.kind) at is_one.segment_is other is_one.from is_one.to
 
--- references that were read are sound
-pub references_are : (i : Img) (st : StreamLists) → IsSound i → IsSplitRead i st → All (IsReference i st.rebases) st.references
+-- references that were read are sound, and keep apart from each other and from the words
+pub references_accepted : (i : Img) (st : StreamLists) → IsSound i → IsSplitRead i st → AreReferences i st.rebases (places_of st.binds) st.references
 unfolding split_break
-references_are i st sound read =
+references_accepted i st sound read =
     let bound : List Location = places_of st.binds in
     let parts = or_none (reading_break st.rebases 0 (spelled_of i.streams.split i)) (broken SplitOverlap (overlap_at st.rebases bound (references_of i.streams.split i))) read.accepted in
-    All-same (IsReference i st.rebases) st.references (references_of i.streams.split i) read.is
-    (accepted i i.streams.split st.rebases bound sound parts.0 (broken_none SplitOverlap (overlap_at st.rebases bound (references_of i.streams.split i)) parts.1)).all
+    subst (λ (rs : List Reference). AreReferences i st.rebases (places_of st.binds) rs) (sym read.is)
+    (accepted i i.streams.split st.rebases bound sound parts.0 (broken_none SplitOverlap (overlap_at st.rebases bound (references_of i.streams.split i)) parts.1))
+
+pub references_are : (i : Img) (st : StreamLists) → IsSound i → IsSplitRead i st → All (IsReference i st.rebases) st.references
+references_are i st sound read = (references_accepted i st sound read).all
 
 words_owned : (is : List Img) (k : ℕ) (i : Img) (st : StreamLists) (placed : List PlacedWord) → IsAt is k i → IsSplitRead i st → All (λ (w : PlacedWord). IsWord i w.at) placed
     → All (λ (w : Word). Owns is k i (new_offset (layout_of is) k i.segments w.at.segment w.at.address) (width_of w.kind)) (words_with k i st placed)

@@ -45,11 +45,11 @@ follow_join a b c [] ys front back = follow_lower a b c ys front back
 follow_join a b c (x ∷ xs) ys front back = (front.0, front.1, front.2, follow_join (x + 8) b c xs ys front.3 back)
 
 -- words at rising addresses, 8 bytes or more from each other
-abbrev SpacedFrom : ℕ → List PlacedWord → Type 0
+abbrev pub SpacedFrom : ℕ → List PlacedWord → Type 0
 SpacedFrom floor [] = Unit {0}
 SpacedFrom floor (w ∷ ws) = (floor ≤ w.at.address) × SpacedFrom (w.at.address + 8) ws
 
-spaced_from : (floor : ℕ) (ws : List PlacedWord) → ((i : ℕ) (d : PlacedWord) → i + 1 < length ws → (get_or ws i d).at.address + 8 ≤ (get_or ws (i + 1) d).at.address) → ((d : PlacedWord) → 0 < length ws → floor ≤ (get_or ws 0 d).at.address) → SpacedFrom floor ws
+pub spaced_from : (floor : ℕ) (ws : List PlacedWord) → ((i : ℕ) (d : PlacedWord) → i + 1 < length ws → (get_or ws i d).at.address + 8 ≤ (get_or ws (i + 1) d).at.address) → ((d : PlacedWord) → 0 < length ws → floor ≤ (get_or ws 0 d).at.address) → SpacedFrom floor ws
 spaced_from floor [] apart first = tt
 spaced_from floor (w ∷ ws) apart first =
     (first w (omega arith), spaced_from (w.at.address + 8) ws (λ i d lt. later i d (apart (suc i) d (omega arith))) (λ d some. next d (apart 0 d (omega arith))))
@@ -62,7 +62,7 @@ spaced_from floor (w ∷ ws) apart first =
 
 -- ---- the chained words of a segment
 
-writable_mapping : (s : Seg) → s.initprot ≡ 3 → is_linkedit_segment s ≡ false → mapping_of s ≡ Some Writable
+pub writable_mapping : (s : Seg) → s.initprot ≡ 3 → is_linkedit_segment s ≡ false → mapping_of s ≡ Some Writable
 unfolding mapping_of
 writable_mapping s writable owned =
     ap (λ (b : Bool). if b then None else (if nat_eq s.initprot 5 then Some Text else (if nat_eq s.initprot 3 then Some Writable else Some Fixed))) owned

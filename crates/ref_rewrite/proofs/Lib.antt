@@ -10,6 +10,7 @@ pub mod HomeLaws
 pub mod JoinedLaws
 pub mod LeadLaws
 pub mod MappingLaws
+pub mod OrderLaws
 pub mod PageLaws
 pub mod PlacedLaws
 pub mod PlanLaws

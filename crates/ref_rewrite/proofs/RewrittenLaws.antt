@@ -128,7 +128,7 @@ edits_apart s (e ∷ es) apart =
       | false ↦ λ is. edits_apart s es apart.1
     ] refl
 
-edits_fit : (s : Span) (es : List Edit) → AllFit es → AllFit (edits_in s es)
+pub edits_fit : (s : Span) (es : List Edit) → AllFit es → AllFit (edits_in s es)
 edits_fit s [] fit = tt
 edits_fit s (e ∷ es) fit =
     let shift : Edit → Edit = λ x. record { at = x.at - s.at; width = x.width; value = x.value } in
