@@ -1,5 +1,5 @@
 -- What is gathered of a set can be filled in: the plans with their headers fit the layout, and the words that are chained can be linked.
-use Rattle.std.proofs.Common.{◌≡◌, ◌≤◌, ℕ, ◌-◌, ◌*◌, ◌^◌, None, List, [], ◌++◌, length, take, drop, refl, sym, ap, ◌∙◌, subst, arith}
+use Rattle.std.proofs.Common.{◌≡◌, ℕ, ◌-◌, ◌*◌, ◌^◌, None, List, [], ◌++◌, length, take, drop, refl, sym, ap, ◌∙◌, subst, arith}
 use Rattle.std.specs.List.{flat_map}
 use Rattle.std.proofs.lemmas.List.{append-nil, take_all, drop_all}
 use Rattle.dsc_base.specs.declared.edits.Edit.{Edit}
@@ -13,7 +13,7 @@ use Rattle.slide_chain.proofs.LinkedLaws.{outside-made}
 use Rattle.prebind.specs.Sets.{ImageSet}
 use Rattle.ref_rewrite.specs.Breaks.{rewrite_break}
 use Rattle.ref_rewrite.specs.Following.{FollowIn}
-use Rattle.ref_rewrite.specs.Pages.{all_pages, part_of}
+use Rattle.ref_rewrite.specs.Pages.{all_pages}
 use Rattle.ref_rewrite.specs.Planned.{IsLayout, AreSized, with_headers}
 use Rattle.ref_rewrite.specs.Plans.{Plan, Fit}
 use Rattle.ref_rewrite.specs.Rewritten.{edits_in, joined}

@@ -1,11 +1,10 @@
 -- Where slide information and linkedit of a set end that breaks no rule: each has room, and the whole has 512 MiB at most.
-use Rattle.std.proofs.Common.{◌≡◌, ◌≤◌, ℕ, ◌+◌, Bool, true, false, if◌then◌else◌, nat_lt, Option, Some, None, List, [], length, All, refl, sym, ap, ap₂, ◌∙◌, subst, arith}
+use Rattle.std.proofs.Common.{◌≡◌, ◌≤◌, ℕ, ◌+◌, Bool, true, false, if◌then◌else◌, nat_lt, Some, None, List, [], length, refl, sym, ap, ◌∙◌, subst, arith}
 use Rattle.std.proofs.lemmas.Bool.{ltb-false}
 use Rattle.dsc_base.specs.Limits.{span_limit}
 use Rattle.dsc_base.specs.Region.{paged}
 use Rattle.dsc_base.specs.declared.fault.Break.{Break}
 use Rattle.macho_image.specs.Records.{Img}
-use Rattle.macho_edit.specs.declared.spots.LinkSpots.{LinkSpots}
 use Rattle.nlist_table.specs.Symbols.{Tabs}
 use Rattle.cache_header.specs.Spelling.{head_bytes}
 use Rattle.cache_layout.specs.Layouts.{Laid, layout_of}
@@ -15,7 +14,6 @@ use Rattle.cache_layout.proofs.PlaceLaws.{length-moves}
 use Rattle.cache_layout.proofs.RoomLaws.{paged-covers}
 use Rattle.prebind.specs.declared.resolved.PlacedWord.{PlacedWord}
 use Rattle.prebind.specs.Sets.{ImageSet}
-use Rattle.ref_rewrite.specs.Plans.{Plan}
 use Rattle.ref_rewrite.specs.Planned.{IsLayout, plan_in, plans_of}
 use Rattle.linkedit_merge.specs.Shares.{Share, shares_of}
 use Rattle.linkedit_merge.specs.Linkedit.{parts_of, linkedit_of, linkedit_size, linkedit_start, merge_break, spots_in, spots_of}

@@ -1,5 +1,5 @@
 -- What is taken of a set, step by step, is what its cache is filled with.
-use Rattle.std.proofs.Common.{◌≡◌, ℕ, List, map, length, sym, ap, ap₂, ◌∙◌}
+use Rattle.std.proofs.Common.{◌≡◌, ℕ, List, map, length, ap, ap₂, ◌∙◌}
 use Rattle.std.specs.List.{flat_map}
 use Rattle.dsc_base.specs.Edits.{put_all}
 use Rattle.macho_edit.specs.declared.spots.LinkSpots.{LinkSpots}
@@ -22,7 +22,6 @@ use Rattle.linkedit_merge.specs.Shares.{Share, shares_of}
 use Rattle.linkedit_merge.specs.Linkedit.{linkedit_start, linkedit_of, spots_of}
 use Rattle.cache_build.specs.declared.frame.Frame.{Frame}
 use Rattle.cache_build.specs.Cache.{headers_of}
-use Rattle.cache_build.specs.Edits.{chained_of}
 use Rattle.cache_build.specs.Head.{head_of}
 use Rattle.cache_build.specs.Places.{shares_in, frame_of}
 use Rattle.cache_build.proofs.GatherLaws.{words_chained}

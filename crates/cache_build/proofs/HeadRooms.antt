@@ -1,5 +1,5 @@
 -- The head of a set of images ends before its segments begin, whatever stands behind them.
-use Rattle.std.proofs.Common.{◌≡◌, ◌≤◌, ◌<◌, ℕ, zero, suc, ◌+◌, ◌-◌, ◌^◌, Option, Some, None, List, [], ◌∷◌, length, map, get_or, All, refl, sym, ap, ap₂, ◌∙◌, subst, arith, inl, inr}
+use Rattle.std.proofs.Common.{◌≡◌, ◌≤◌, ◌<◌, ℕ, zero, suc, ◌+◌, ◌-◌, ◌^◌, Option, None, List, [], ◌∷◌, length, map, get_or, All, refl, sym, ap, ◌∙◌, subst, arith, inl, inr}
 use Rattle.std.specs.List.{sum_by, enumerate_from}
 use Rattle.std.proofs.lemmas.Bool.{cases_lt, cases_Bool}
 use Rattle.std.proofs.lemmas.List.{get_or_default, get_or_past}
@@ -7,7 +7,7 @@ use Rattle.std.proofs.lemmas.List.Sums.{sum_by-cons}
 use Rattle.macho_image.specs.Records.{Seg, Img}
 use Rattle.macho_image.specs.Rules.{is_linkedit_segment}
 use Rattle.macho_image.specs.declared.place.Moved.{Moved}
-use Rattle.cache_header.specs.Records.{Entry, Head}
+use Rattle.cache_header.specs.Records.{Entry}
 use Rattle.cache_header.specs.Spelling.{head_bytes, path_room, IsWritable}
 use Rattle.cache_header.specs.Widths.{FitsMapping, FitsEntry, FitsHead}
 use Rattle.cache_header.proofs.Back.{length-head}

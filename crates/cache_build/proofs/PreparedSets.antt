@@ -1,5 +1,5 @@
 -- Accepted images, their tables, their words in order and their layout are what a cache is gathered from.
-use Rattle.std.proofs.Common.{◌≡◌, ◌≤◌, ◌<◌, ℕ, zero, suc, Option, Some, None, List, [], ◌∷◌, Vec, Global, length, map, get_or, All, refl, sym, ap, ◌∙◌, subst, arith, inl, inr}
+use Rattle.std.proofs.Common.{◌≡◌, ◌≤◌, ◌<◌, ℕ, zero, suc, Option, Some, None, List, [], ◌∷◌, Vec, Global, length, map, get_or, refl, sym, ap, ◌∙◌, subst, arith, inl, inr}
 use Rattle.std.specs.Prelude.{slice_get, slice_index_or, position, option_map}
 use Rattle.std.proofs.lemmas.Bool.{cases_lt}
 use Rattle.std.proofs.lemmas.List.{get_or_default, get_or_past, length-map}
@@ -10,7 +10,7 @@ use Rattle.macho_image.specs.Records.{Img}
 use Rattle.macho_image.specs.Segments.{segments_at}
 use Rattle.export_trie.specs.declared.export.Export.{Export}
 use Rattle.export_trie.specs.Exports.{exports_of}
-use Rattle.nlist_table.specs.Symbols.{Tabs, tables_of}
+use Rattle.nlist_table.specs.Symbols.{tables_of}
 use Rattle.nlist_table.proofs.KeptLaws.{image_tables}
 use Rattle.prebind.specs.declared.resolved.PlacedWord.{PlacedWord}
 use Rattle.prebind.specs.Sets.{StreamLists, ImageSet, lists_of, image_set}

@@ -1,26 +1,19 @@
-use Rattle.std.proofs.Common.{◌≡◌, ◌≤◌, ℕ, List, Vec, Global, map, length, ap, ap₂, sym, subst, ◌∙◌, rules, arith, refl}
+use Rattle.std.proofs.Common.{◌≡◌, ℕ, List, Vec, Global, map, length, ap, ap₂, sym, subst, ◌∙◌, rules, arith}
 use Rattle.std.specs.List.{flat_map}
 use Rattle.dsc_base.specs.declared.fault.Span.{Span}
 use Rattle.macho_edit.specs.declared.spots.LinkSpots.{LinkSpots}
-use Rattle.nlist_table.specs.Symbols.{Tabs, tables_of}
-use Rattle.slide_chain.specs.Chains.{Slide}
+use Rattle.nlist_table.specs.Symbols.{Tabs}
 use Rattle.slide_chain.specs.Info.{info_bytes}
 use Rattle.slide_chain.specs.Making.{info_of, IsMade}
 use Rattle.prebind.specs.declared.resolved.PlacedWord.{PlacedWord}
-use Rattle.prebind.specs.Sets.{ImageSet}
 use Rattle.prebind.specs.Steps.{set_of}
-use Rattle.cache_layout.specs.Layouts.{Laid}
-use Rattle.ref_rewrite.specs.Pages.{all_edits}
 use Rattle.ref_rewrite.specs.Plans.{Plan}
 use Rattle.ref_rewrite.specs.Planned.{with_headers}
 use Rattle.linkedit_merge.specs.Shares.{Share, shares_of}
-use Rattle.linkedit_merge.specs.Linkedit.{linkedit_start, linkedit_of, spots_of, merge_break}
+use Rattle.linkedit_merge.specs.Linkedit.{linkedit_start, spots_of}
 use Rattle.cache_build.specs.Breaks.{behind_layout}
 use Rattle.cache_build.specs.Cache.{headers_of}
-use Rattle.cache_build.specs.Edits.{chained_of}
 use Rattle.cache_build.specs.Filling.{segments_of, filled, CanFill, CanMoveEach}
-use Rattle.cache_build.specs.Places.{slide_bytes, shares_in, frame_of}
-use Rattle.cache_build.specs.declared.frame.Frame.{Frame}
 use Rattle.cache_build.proofs.GatherFills.{ArePlans, can_fill, written_back}
 use Rattle.cache_build.proofs.GatherLaws.{words_rise, words_below, words_chained, data_pages, data_room, segments_low, refused_by, first_refused, second_refused, third_refused, none_refused, merge_same}
 use Rattle.cache_build.proofs.GatherRooms.{IsFramed, many_plans, many_spots, many_moves, length_linkedit, linkedit_low, span_low, data_within, have_rooms, can_tell}
