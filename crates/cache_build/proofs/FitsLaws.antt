@@ -15,7 +15,6 @@ use Rattle.macho_image.specs.Rules.{is_text, is_good_text, is_plain_name, is_lin
 use Rattle.macho_image.specs.Breaks.{header_break, command_break, unread, IsSound}
 use Rattle.macho_image.proofs.Images.{pieces_of-loads_from}
 use Rattle.macho_image.proofs.Unbroken.{or_none, broken_none}
-use Rattle.macho_edit.specs.Conditions.{AreLow}
 use Rattle.cache_header.specs.Paths.{is_plain_path}
 use Rattle.cache_layout.specs.declared.mapping.Mapping.TheVariants.{Writable}
 use Rattle.cache_layout.specs.Layouts.{layout_of, layout_break}
@@ -23,11 +22,9 @@ use Rattle.cache_layout.specs.Apart.{IsSegment, AreInTurn, move_at}
 use Rattle.cache_layout.proofs.SoundLaws.{sound_rules, shape_parts, both, load-of, sound_linkedit}
 use Rattle.cache_layout.proofs.SpaceLaws.{sound_space}
 use Rattle.cache_layout.proofs.RoomLaws.{paged-covers}
-use Rattle.cache_layout.proofs.PlaceLaws.{length-moves, length-moves-of, are_in_turn, are_within}
-use Rattle.cache_build.specs.PlainPlaces.{linkedit_place, span_of}
+use Rattle.cache_layout.proofs.PlaceLaws.{are_within}
 use Rattle.cache_build.specs.Head.{text_size}
-use Rattle.cache_build.specs.PlainCache.{spots_at}
-use Rattle.cache_build.specs.Fits.{HasRoom, Fits, CanMoveAll, CanAssemble}
+use Rattle.cache_build.specs.Fits.{HasRoom, Fits}
 
 -- ---- the path
 
@@ -162,51 +159,3 @@ image_fits images k i none lt at sound = record {
   path = sound_path i sound;
   text = let low : text_size i.segments ≤ 0x20000000 = text_low images k i none lt at sound in omega (arith, low);
 }
-
-spots_low : (place : ℕ) → place ≤ 0x20000000 → AreLow (spots_at place)
-unfolding spots_at
-spots_low place low = record {
-  rebase = omega arith;
-  bind = omega arith;
-  lazy = omega arith;
-  exports = omega arith;
-  function_starts = omega arith;
-  data_in_code = omega arith;
-  symbols = omega arith;
-  indirect = omega arith;
-  strings = omega (arith, low);
-}
-
-pub can_move : (images : List Img) → AreSound images → layout_break images ≡ None → linkedit_place (layout_of images) ≤ 0x20000000 → CanMoveAll (layout_of images) images
-unfolding spots_at
-can_move images sound none low k i lt at =
-    let moves : List Moved = slice_index_or (layout_of images).moves k [] in
-    let one : length (get_or (layout_of images).moves k []) ≡ length i.segments = length-moves-of images k i lt at in
-    record {
-      one_each = one;
-      low = λ g m s below owned.
-          let within : g < length i.segments = omega (arith, below, one) in
-          let t : Seg = get_or i.segments g s in
-          let own : get_or i.segments g s ≡ get_or i.segments g t = get_or_default i.segments g s t within in
-          let there : IsSegment images k g i t = record { image_in = lt; image_is = at; segment_in = within; segment_is = own } in
-          let end : (move_at (layout_of images) k g).file + t.vmsize ≤ 0x20000000 = low_end images none k g i t there owned in
-          let same : (get_or moves g m).file ≡ (move_at (layout_of images) k g).file = ap (λ (v : Moved). v.file) (get_or_default moves g m (record { address = 0; file = 0 }) below) in
-          omega (arith, end, same);
-      spans = spots_low (linkedit_place (layout_of images)) low;
-      whole_symbols = refl;
-      whole_indirect = refl;
-    }
-
-pub can_assemble : (images : List Img) → length images ≤ 4096 → AreSound images → layout_break images ≡ None → span_of (layout_of images) ≤ 0x20000000 → CanAssemble (layout_of images) images
-can_assemble images few sound none small =
-    let turn : AreInTurn images (layout_of images) = are_in_turn images none in
-    record {
-      few = few;
-      one_each = length-moves images;
-      images = λ k d lt. image_fits images k (get_or images k d) none lt (get_or_default images k d (get_or images k d) lt) (sound k d lt);
-      moves = can_move images sound none (omega (arith, small));
-      head = omega (arith, turn.writable);
-      writable = omega (arith, turn.fixed);
-      pages = (turn.pages Writable).1;
-      span = small;
-    }

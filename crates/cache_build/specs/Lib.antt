@@ -7,7 +7,3 @@ pub mod Filling
 pub mod Fits
 pub mod Head
 pub mod Places
-pub mod PlainCache
-pub mod PlainPlaces
-pub mod Pointers
-pub mod Setting

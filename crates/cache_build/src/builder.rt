@@ -1,17 +1,18 @@
 // Building a cache of a set of dylibs.
 ghost use Rattle.std.specs.Prelude.{◌≡◌, ◌≤◌, ◌<◌, None, length, All, IfOk, IfErr, OnOk};
-ghost use Rattle.cache_build.specs.Breaks.{set_break, too_large_at};
+ghost use Rattle.cache_build.specs.Breaks.{set_break};
 ghost use Rattle.cache_header.specs.Reading.{span};
 ghost use Rattle.load_model.specs.Phases.{contents};
 ghost use Rattle.cache_build.specs.Built.{built};
 ghost use Rattle.dsc_base.specs.Refusals.{IsSetRefusal};
 ghost use Rattle.cache_build.specs.Always.{CorrespondsAlways};
 
-use crate::assemble::assemble;
-use crate::frame::Frame;
+use crate::filling::filled_cache;
+use crate::gathering::gather;
 use cache_layout::lay_out;
-use dsc_base::{Break, Gate, Rule, SPAN_LIMIT, SetFault};
+use dsc_base::{Gate, SetFault};
 use load_model::read_files;
+use prebind::Set;
 use std::alloc::Global;
 use std::thread::Threads;
 
@@ -21,21 +22,6 @@ use std::thread::Threads;
 pub struct Options {
     pub jobs: u32,
     pub delta_bits: u32,
-}
-
-/// A cache whose linkedit ends behind 512 MiB.
-fn too_large(span: u64) -> Option<Break>
-    ensures { result ≡ too_large_at span }
-{
-    if span > SPAN_LIMIT {
-        Some(Break {
-            rule: Rule::LinkeditTooLarge,
-            image: 0,
-            at: SPAN_LIMIT,
-        })
-    } else {
-        None
-    }
 }
 
 /// Does nothing: its contract tells what is true of each slice of bytes.
@@ -65,29 +51,29 @@ pub fn build<R: Threads + Sync, G: Gate + Sync>(
     requires few { (1 ≤ length files.now) × (length files.now ≤ 4096) }
     requires sizes { All (λ f. length f.items ≤ 0x4000000) files.now }
     requires jobs { (1 ≤ options.now.jobs) × (options.now.jobs ≤ 64) }
-    requires bits { options.now.delta_bits ≡ 16 }
-    ensures cache { IfOk result (λ c. c.items ≡ built (contents files.now)) }
-    ensures unbroken { OnOk result (set_break (contents files.now) ≡ None) }
-    ensures corresponds { set_break (contents files.now) ≡ None → CorrespondsAlways (contents files.now) (built (contents files.now)) }
-    ensures span { set_break (contents files.now) ≡ None → span (built (contents files.now)) ≡ length (built (contents files.now)) }
-    ensures cause { IfErr result (IsSetRefusal (set_break (contents files.now))) }
+    requires bits { (1 ≤ options.now.delta_bits) × (options.now.delta_bits ≤ 16) }
+    ensures cache { IfOk result (λ c. c.items ≡ built options.now.delta_bits (contents files.now)) }
+    ensures unbroken { OnOk result (set_break options.now.delta_bits (contents files.now) ≡ None) }
+    ensures corresponds { set_break options.now.delta_bits (contents files.now) ≡ None → CorrespondsAlways (contents files.now) (built options.now.delta_bits (contents files.now)) }
+    ensures span { set_break options.now.delta_bits (contents files.now) ≡ None → span (built options.now.delta_bits (contents files.now)) ≡ length (built options.now.delta_bits (contents files.now)) }
+    ensures cause { IfErr result (IsSetRefusal (set_break options.now.delta_bits (contents files.now))) }
 {
     files_are_bytes(files);
-    let set = read_files(alloc, files)?;
-    let layout = lay_out(alloc, &set.images)?;
-    let frame = Frame::behind(&layout);
-    if let Some(found) = too_large(frame.span) {
-        return Err(SetFault::Broken(found));
-    }
-    let cache = assemble(
-        rt,
+    let read = read_files(alloc, files)?;
+    let layout = lay_out(alloc, &read.images)?;
+    let set = Set {
+        images: &read.images,
+        streams: &read.streams,
+        links: &read.links,
+    };
+    let (parts, frame) = gather(
         alloc,
-        &set.images,
-        &set.streams,
+        &set,
+        &read.tables,
+        &read.words,
         &layout,
-        &frame,
-        options.jobs,
-        gate,
+        options.delta_bits,
     )?;
+    let cache = filled_cache(rt, alloc, &layout, &frame, &parts, options.jobs, gate)?;
     Ok(cache)
 }
