@@ -1,5 +1,5 @@
 -- The trie of moved exports breaks no rule and reads back as them, if they are those of an accepted trie.
-use Rattle.std.proofs.Common.{◌≡◌, ◌<◌, ℕ, ◌^◌, List, length, get_or, refl, sym, ap, subst, ◌∙◌, arith, Option, Some, None, All}
+use Rattle.std.proofs.Common.{◌≡◌, ◌<◌, ℕ, ◌^◌, List, length, get_or, refl, sym, subst, arith, Option, Some, None, All}
 use Rattle.std.proofs.lemmas.List.{length-map, get_or-map}
 use Rattle.macho_image.specs.Records.{Seg}
 use Rattle.macho_image.specs.declared.place.Moved.{Moved}
