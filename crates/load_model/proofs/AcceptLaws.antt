@@ -17,7 +17,7 @@ use Rattle.macho_image.specs.Macho.{image_of, image_from, header_in, streams_of,
 use Rattle.macho_image.specs.Rules.{breaks_not_mach_o, breaks_command_shape}
 use Rattle.macho_image.specs.Breaks.{image_break, image_at, image_unless}
 use Rattle.dsc_base.specs.Refusals.{broken, first_break, IsRefusal}
-use Rattle.load_model.specs.NotYet.{is_universal}
+use Rattle.load_model.specs.Universal.{is_universal}
 use Rattle.load_model.specs.Phases.{shape_break}
 use Rattle.load_model.proofs.Unbroken.{Unbroken, unbroken_from}
 

@@ -10,7 +10,7 @@ use Rattle.macho_image.specs.Macho.{image_of}
 use Rattle.macho_image.specs.Breaks.{image_break, IsSound}
 use Rattle.dsc_base.specs.Refusals.{in_image, broken, first_break, in_each}
 use Rattle.macho_image.proofs.Unbroken.{or_none, image_sound}
-use Rattle.load_model.specs.NotYet.{is_universal}
+use Rattle.load_model.specs.Universal.{is_universal}
 use Rattle.load_model.specs.Phases.{shape_break, images_of}
 
 pub unbroken_shape : (file : List ℕ) → shape_break file ≡ None → image_break Standalone file 0 ≡ None

@@ -17,7 +17,7 @@ use Rattle.prebind.specs.Sets.{ImageSet, streams_break, image_set}
 use Rattle.prebind.specs.Places.{export_break}
 use Rattle.prebind.specs.WordRules.{place_break}
 use Rattle.load_model.specs.Sums.{record_count, name_bytes, sums_break}
-use Rattle.load_model.specs.NotYet.{is_universal}
+use Rattle.load_model.specs.Universal.{is_universal}
 
 -- the bytes of files
 abbrev pub contents : List (Vec ℕ Global) → List (List ℕ)

@@ -1,6 +1,6 @@
-// Universal files, after fat.h of Apple's published headers.
+// Universal files, after mach-o/fat.h.
 ghost use Rattle.std.specs.Prelude.{◌≡◌};
-ghost use Rattle.load_model.specs.NotYet.{is_universal};
+ghost use Rattle.load_model.specs.Universal.{is_universal};
 
 use dsc_base::get_u32;
 
@@ -8,7 +8,7 @@ use dsc_base::get_u32;
 const UNIVERSAL_MAGIC: u32 = 0xBEBA_FECA;
 
 /// Whether a file is a universal one.
-#[tactic(auto, unfolding(crate::specs::NotYet::is_universal))]
+#[tactic(auto, unfolding(crate::specs::Universal::is_universal))]
 pub fn begins_universal(file: &[u8]) -> bool
     ensures { result ≡ is_universal file.now }
 {

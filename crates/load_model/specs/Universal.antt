@@ -1,4 +1,4 @@
--- Rule 190: what can't be read yet.
+-- Universal files, after mach-o/fat.h, which rule 190 refuses.
 use Rattle.std.specs.Prelude.{ℕ, Bool, ◌&&◌, nat_eq, nat_le, List, length}
 use Rattle.dsc_base.specs.Numbers.{number_at}
 
