@@ -3,6 +3,7 @@ use Rattle.std.proofs.Common.{◌≡◌, ◌⊎◌, ℕ, List, length, string_by
 use Rattle.dsc_base.specs.Outside.{Files, LeavesPrefix, AppendsPrefix, with_file}
 use Rattle.cache_header.specs.Reading.{span}
 use Rattle.cache_build.specs.Built.{built}
+use Rattle.dsc_tool.specs.Options.{delta_bits}
 use Rattle.dsc_tool.specs.declared.product.Product.{Product}
 use Rattle.dsc_tool.specs.declared.status.Status.{Status}
 use Rattle.dsc_tool.specs.declared.status.Status.TheVariants.{Done, Refused, BadWords, ReadFault, WriteFault, Memory, Differs}
@@ -18,11 +19,11 @@ use Rattle.dsc_tool.specs.Words.{Order}
 
 -- the product's file and line are those of the accepted inputs
 file_of : (files : Option Files) (order : Order) (bytes : List (List ℕ)) (p : Product) → IsProductOf order bytes p
-    → with_file files p.name p.cache.items ≡ with_file files order.out (built bytes)
+    → with_file files p.name p.cache.items ≡ with_file files order.out (built delta_bits bytes)
 file_of files order bytes p is =
     ap (λ (n : List ℕ). with_file files n p.cache.items) is.name ∙ ap (λ (c : List ℕ). with_file files order.out c) is.cache
 
-line_of : (order : Order) (bytes : List (List ℕ)) (p : Product) → IsProductOf order bytes p → string_bytes p.line ≡ built_line (length bytes) (span (built bytes))
+line_of : (order : Order) (bytes : List (List ℕ)) (p : Product) → IsProductOf order bytes p → string_bytes p.line ≡ built_line (length bytes) (span (built delta_bits bytes))
 line_of order bytes p is = is.line ∙ ap (λ (c : List ℕ). built_line (length bytes) (span c)) is.cache
 
 done : (words : List (List ℕ)) (before after : World) (gets : ℕ) (p : Product) → IsProduct words before.files p
@@ -32,7 +33,7 @@ done words before after gets p (order, bytes, accepted, is) all =
       order = order;
       bytes = bytes;
       accepted = accepted;
-      cache = built bytes;
+      cache = built delta_bits bytes;
       is = refl;
       corresponds = is.corresponds;
       files = all.files ∙ file_of before.files order bytes p is;
@@ -43,7 +44,7 @@ done words before after gets p (order, bytes, accepted, is) all =
 -- the part of the product that was put is that part of the inputs' cache and line
 part_of : (before after : World) (order : Order) (bytes : List (List ℕ)) (p : Product) → IsProductOf order bytes p
     → IsFilePart before after p.name p.cache.items ⊎ IsLinePart before after p.name p.cache.items (string_bytes p.line)
-    → IsFilePart before after order.out (built bytes) ⊎ IsLinePart before after order.out (built bytes) (built_line (length bytes) (span (built bytes)))
+    → IsFilePart before after order.out (built delta_bits bytes) ⊎ IsLinePart before after order.out (built delta_bits bytes) (built_line (length bytes) (span (built delta_bits bytes)))
 part_of before after order bytes p is (inl part) = inl (record {
   fault = part.fault;
   files = subst (λ (c : List ℕ). LeavesPrefix before.files after.files order.out c) is.cache (subst (λ (n : List ℕ). LeavesPrefix before.files after.files n p.cache.items) is.name part.files);
@@ -69,7 +70,7 @@ cut_short words before after gets p (order, bytes, accepted, is) some =
       order = order;
       bytes = bytes;
       accepted = accepted;
-      part = same_gets before after gets order.out (built bytes) (built_line (length bytes) (span (built bytes))) (part_of (record before { get_faults = gets }) after order bytes p is some.part);
+      part = same_gets before after gets order.out (built delta_bits bytes) (built_line (length bytes) (span (built delta_bits bytes))) (part_of (record before { get_faults = gets }) after order bytes p is some.part);
       err = some.err;
     }
 

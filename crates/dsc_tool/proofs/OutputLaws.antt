@@ -4,6 +4,7 @@ use Rattle.dsc_base.specs.Outside.{Files, Rose}
 use Rattle.dsc_base.specs.declared.fault.Break.{Break}
 use Rattle.cache_build.specs.Breaks.{set_break}
 use Rattle.cache_build.specs.Built.{built}
+use Rattle.dsc_tool.specs.Options.{delta_bits}
 use Rattle.dsc_tool.specs.declared.stop.Stop.{Stop}
 use Rattle.dsc_tool.specs.declared.stop.Stop.TheVariants.{BadWords, Unread, Refused}
 use Rattle.dsc_tool.specs.Causes.{IsRead, IsAccepted, IsDue}
@@ -12,7 +13,7 @@ use Rattle.dsc_tool.specs.Words.{Order, command_of}
 use Rattle.dsc_tool.proofs.ReadingLaws.{read_all, unread_end, refused_end}
 
 -- inputs that are read come to what their first broken rule says
-whole_end : (words : List (List ℕ)) (files : Files) (order : Order) (bytes : List (List ℕ)) (found : Option Break) → IsRead words (Some files) order bytes → set_break bytes ≡ found
+whole_end : (words : List (List ℕ)) (files : Files) (order : Order) (bytes : List (List ℕ)) (found : Option Break) → IsRead words (Some files) order bytes → set_break delta_bits bytes ≡ found
     → command_end files (command_of words) ≡ build_end order.out bytes found
 whole_end words files order bytes found read is =
     ap (λ (o : Option Order). command_end files o) read.spelled
@@ -30,7 +31,7 @@ unfolding output
 ended words files end is = ap (λ (e : Result Placed Stop). outcome_of files e) is
 
 pub output-accepted : (words : List (List ℕ)) (files : Files) (order : Order) (bytes : List (List ℕ)) → IsAccepted words (Some files) order bytes
-    → output words files ≡ outcome_of files (Ok record { name = order.out; images = length bytes; cache = built bytes })
+    → output words files ≡ outcome_of files (Ok record { name = order.out; images = length bytes; cache = built delta_bits bytes })
 output-accepted words files order bytes accepted =
     ended words files _ (whole_end words files order bytes None accepted.read accepted.unbroken)
 

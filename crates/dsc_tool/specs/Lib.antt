@@ -1,5 +1,6 @@
 pub mod Causes
 pub mod Inputs
+pub mod Options
 pub mod Output
 pub mod Ran
 pub mod Statuses

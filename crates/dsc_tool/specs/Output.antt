@@ -6,6 +6,7 @@ use Rattle.dsc_base.specs.declared.fault.Break.{Break}
 use Rattle.cache_header.specs.Reading.{span}
 use Rattle.cache_build.specs.Breaks.{set_break}
 use Rattle.cache_build.specs.Built.{built}
+use Rattle.dsc_tool.specs.Options.{delta_bits}
 use Rattle.dsc_tool.specs.declared.status.Status.{Status}
 use Rattle.dsc_tool.specs.declared.status.Status.TheVariants.{Done}
 use Rattle.dsc_tool.specs.declared.stop.Stop.{Stop}
@@ -25,7 +26,7 @@ pub record Placed : Type 0 where
 -- of files, by the first rule that they break: the rule, or else their cache
 abbrev pub build_end : List ℕ → List (List ℕ) → Option Break → Result Placed Stop
 build_end name bytes (Some b) = Err (Refused b)
-build_end name bytes None = Ok record { name = name; images = length bytes; cache = built bytes }
+build_end name bytes None = Ok record { name = name; images = length bytes; cache = built delta_bits bytes }
 
 -- of one input's bytes behind those of earlier ones, where the files have it
 abbrev pub next_end : List (List ℕ) → Option (List ℕ) → Result (List (List ℕ)) Stop
@@ -42,7 +43,7 @@ read_end files (name ∷ names) (Err stop) = Err stop
 
 -- of all inputs
 abbrev pub inputs_end : List ℕ → Result (List (List ℕ)) Stop → Result Placed Stop
-inputs_end name (Ok bytes) = build_end name bytes (set_break bytes)
+inputs_end name (Ok bytes) = build_end name bytes (set_break delta_bits bytes)
 inputs_end name (Err stop) = Err stop
 
 -- of a command, where the words spell one

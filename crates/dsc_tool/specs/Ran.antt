@@ -7,6 +7,7 @@ use Rattle.cache_header.specs.Reading.{span}
 use Rattle.cache_build.specs.Breaks.{set_break}
 use Rattle.cache_build.specs.Always.{CorrespondsAlways}
 use Rattle.cache_build.specs.Built.{built}
+use Rattle.dsc_tool.specs.Options.{delta_bits}
 use Rattle.dsc_tool.specs.declared.status.Status.{Status}
 use Rattle.dsc_tool.specs.declared.status.Status.TheVariants.{Done, Refused, BadWords, ReadFault, WriteFault, Memory, Differs}
 use Rattle.dsc_tool.specs.declared.stop.Stop.{Stop}
@@ -25,7 +26,7 @@ pub record IsDone (words : List (List ℕ)) (before after : World) : Type 0 wher
   pub bytes : List (List ℕ)
   pub accepted : IsAccepted words before.files order bytes
   pub cache : List ℕ
-  pub is : cache ≡ built bytes
+  pub is : cache ≡ built delta_bits bytes
   pub corresponds : CorrespondsAlways bytes cache
   pub files : after.files ≡ with_file before.files order.out cache
   pub out : after.out ≡ appended before.out (built_line (length bytes) (span cache))
@@ -52,8 +53,8 @@ pub record IsCutShort (words : List (List ℕ)) (before after : World) : Type 0 
   pub order : Order
   pub bytes : List (List ℕ)
   pub accepted : IsAccepted words before.files order bytes
-  pub part : IsFilePart before after order.out (built bytes)
-      ⊎ IsLinePart before after order.out (built bytes) (built_line (length bytes) (span (built bytes)))
+  pub part : IsFilePart before after order.out (built delta_bits bytes)
+      ⊎ IsLinePart before after order.out (built delta_bits bytes) (built_line (length bytes) (span (built delta_bits bytes)))
   pub err : Tells cannot_write_line WriteFault before.err before.err_faults after.err after.err_faults WriteFault
 
 -- what is so after each status, over every store and sink
@@ -100,7 +101,7 @@ pub record IsByOutput (words : List (List ℕ)) (files : Files) (before after : 
   pub quiet : (AnyRose before after → ⊥) → (status ≡ Memory) ⊎ IsOutcome (output words files) before after status
   -- so accepted inputs are built, where nothing has failed
   pub complete : (order : Order) (bytes : List (List ℕ)) → IsAccepted words (Some files) order bytes → (AnyRose before after → ⊥)
-      → (status ≡ Memory) ⊎ IsOutcome (outcome_of files (Ok record { name = order.out; images = length bytes; cache = built bytes })) before after status
+      → (status ≡ Memory) ⊎ IsOutcome (outcome_of files (Ok record { name = order.out; images = length bytes; cache = built delta_bits bytes })) before after status
   -- and inputs that break a rule, or pass a limit while they are read, are refused by the first one, where nothing has failed
   pub refuses : (order : Order) (b : Break) → command_of words ≡ Some order → RefusalCause words (Some files) before.get_faults after.get_faults order b → (AnyRose before after → ⊥)
       → (status ≡ Memory) ⊎ IsOutcome (outcome_of files (Err (Broken b))) before after status
@@ -121,8 +122,8 @@ pub record IsBuilt (words : List (List ℕ)) (files : Files) (after : Option Fil
   pub bytes : List (List ℕ)
   pub spelled : command_of words ≡ Some order
   pub inputs : AreRead (Some files) order.inputs bytes
-  pub unbroken : set_break bytes ≡ None
+  pub unbroken : set_break delta_bits bytes ≡ None
   pub cache : List ℕ
-  pub is : cache ≡ built bytes
+  pub is : cache ≡ built delta_bits bytes
   pub corresponds : CorrespondsAlways bytes cache
   pub placed : after ≡ Some (insert files order.out cache)

@@ -4,6 +4,7 @@ use Rattle.dsc_base.specs.Outside.{Files, Rose, AppendsPrefix, LeavesPrefix, wit
 use Rattle.cache_build.specs.Always.{CorrespondsAlways}
 use Rattle.cache_header.specs.Reading.{span}
 use Rattle.cache_build.specs.Built.{built}
+use Rattle.dsc_tool.specs.Options.{delta_bits}
 use Rattle.dsc_tool.specs.declared.product.Product.{Product}
 use Rattle.dsc_tool.specs.declared.status.Status.{Status}
 use Rattle.dsc_tool.specs.declared.status.Status.TheVariants.{Done, Refused, BadWords, ReadFault, WriteFault, Memory, Differs}
@@ -17,8 +18,8 @@ use Rattle.dsc_tool.specs.Words.{Order}
 -- the product is the cache of the accepted inputs, which corresponds to them, and the line that tells of it
 pub record IsProductOf (order : Order) (bytes : List (List ℕ)) (p : Product) : Type 0 where
   pub name : p.name ≡ order.out
-  pub cache : p.cache.items ≡ built bytes
-  pub corresponds : CorrespondsAlways bytes (built bytes)
+  pub cache : p.cache.items ≡ built delta_bits bytes
+  pub corresponds : CorrespondsAlways bytes (built delta_bits bytes)
   pub line : string_bytes p.line ≡ built_line (length bytes) (span p.cache.items)
 
 abbrev pub IsProduct : List (List ℕ) → Option Files → Product → Type 0

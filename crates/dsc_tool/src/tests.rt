@@ -1,6 +1,7 @@
 mod dylibs;
 mod pointers;
 mod refusals;
+mod sets;
 
 use crate::{Status, run};
 use dsc_base::{
@@ -8,7 +9,7 @@ use dsc_base::{
 };
 use dylibs::{data_dylib, large_dylib, plain_dylib};
 use macho_image::{Form, read_image};
-use refusals::{NOT_YET, REFUSED};
+use refusals::REFUSED;
 use std::alloc::{AllocError, Global};
 use std::process::Abort;
 use std::test::Fail;
@@ -261,11 +262,10 @@ fn other_files_are_refused(rt: HostRuntime) -> Result<(), Fail> {
         file.truncate(length);
         is_refused(&rt, alloc, file, want)?;
     }
-    for (numbers, want) in NOT_YET {
-        let mut file = still_dylib(alloc, 0x642E_612F)?;
-        put_all(&mut file, numbers);
-        is_refused(&rt, alloc, file, want)?;
-    }
+    // universal files aren't read yet
+    let mut universal = still_dylib(alloc, 0x642E_612F)?;
+    put_all(&mut universal, &[(0x0, 0xBEBA_FECA)]);
+    is_refused(&rt, alloc, universal, "190 NotYet image 0 at 0x0")?;
     let mut crossing = data_dylib(alloc, 0x2000)?;
     put_all(&mut crossing, &AT_THE_EDGE);
     put_all(&mut crossing, &[(0x3000, 0x1FFC_2111)]);

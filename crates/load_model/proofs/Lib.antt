@@ -4,13 +4,11 @@ pub mod BoundLaws
 pub mod CellLaws
 pub mod FilesLaws
 pub mod FirstLaws
-pub mod FirstLoads
 pub mod LinkeditLaws
 pub mod LoadingLaws
 pub mod MappedLaws
 pub mod NumberLaws
 pub mod PlacedLaws
-pub mod PlainLaws
 pub mod RebasedLaws
 pub mod SetLaws
 pub mod ShapeLaws

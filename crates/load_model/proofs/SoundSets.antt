@@ -10,16 +10,15 @@ use Rattle.macho_image.specs.Macho.{image_of}
 use Rattle.macho_image.specs.Breaks.{image_break, IsSound}
 use Rattle.dsc_base.specs.Refusals.{in_image, broken, first_break, in_each}
 use Rattle.macho_image.proofs.Unbroken.{or_none, image_sound}
-use Rattle.load_model.specs.NotYet.{is_universal}
+use Rattle.load_model.specs.Universal.{is_universal}
 use Rattle.load_model.specs.Phases.{shape_break, images_of}
-use Rattle.load_model.proofs.AcceptLaws.{not_yet_of}
 
 pub unbroken_shape : (file : List ℕ) → shape_break file ≡ None → image_break Standalone file 0 ≡ None
 unfolding shape_break
 unbroken_shape file none =
-    elim (is_universal file) as (λ b. (if b then Some (record { rule = NotYet; at = 0 }) else first_break (image_break Standalone file 0 ∷ broken NotYet (not_yet_of file) ∷ [])) ≡ None → image_break Standalone file 0 ≡ None) [
+    elim (is_universal file) as (λ b. (if b then Some (record { rule = NotYet; at = 0 }) else image_break Standalone file 0) ≡ None → image_break Standalone file 0 ≡ None) [
       | true ↦ λ some. absurd (cc)
-      | false ↦ λ is. (or_none _ _ is).0
+      | false ↦ λ is. is
     ] none
 
 pub file_sound : (file : List ℕ) → shape_break file ≡ None → IsSound (image_of file 0)

@@ -4,7 +4,7 @@ pub mod Handed
 pub mod Loading
 pub mod Mapped
 pub mod Memory
-pub mod NotYet
 pub mod Phases
 pub mod Placed
 pub mod Sums
+pub mod Universal

@@ -17,7 +17,7 @@ use Rattle.prebind.specs.Sets.{ImageSet, streams_break, image_set}
 use Rattle.prebind.specs.Places.{export_break}
 use Rattle.prebind.specs.WordRules.{place_break}
 use Rattle.load_model.specs.Sums.{record_count, name_bytes, sums_break}
-use Rattle.load_model.specs.NotYet.{is_universal, breaks_not_yet}
+use Rattle.load_model.specs.Universal.{is_universal}
 
 -- the bytes of files
 abbrev pub contents : List (Vec ℕ Global) → List (List ℕ)
@@ -31,8 +31,7 @@ images_of files = map (λ (file : List ℕ). image_of file 0) files
 
 unfoldable pub shape_break : List ℕ → Option Site
 shape_break file =
-    if is_universal file then Some record { rule = NotYet; at = 0 }
-    else first_break (image_break Standalone file 0 ∷ broken NotYet (breaks_not_yet (header_in file 0) (unwrap_or (image_of file 0).streams.split [])) ∷ [])
+    if is_universal file then Some record { rule = NotYet; at = 0 } else image_break Standalone file 0
 
 -- ---- phase two: the streams and tables of an image, and then how much the images up to it have
 

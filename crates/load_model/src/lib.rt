@@ -6,9 +6,9 @@ mod accept;
 mod linkedits;
 mod loaded;
 mod loading;
-mod not_yet;
 mod set;
 mod symbols;
+mod universal;
 
 pub use loaded::LoadedSegment;
 pub use loading::load_image;
