@@ -1,7 +1,6 @@
 mod dylibs;
 mod pointers;
 mod refusals;
-mod sets;
 
 use crate::{Status, run};
 use dsc_base::{
