@@ -1,6 +1,6 @@
 #!/bin/sh
 # Makes libhello.dylib of hello.c with clang and lld. Where these are missing, the ready libhello.dylib serves.
-# The linker leaves a string area of a few bytes for no symbols; it is emptied, since symbol tables aren't built yet.
+# The linker leaves a string area of a few bytes for no symbols; it is emptied.
 set -e
 here=$(CDPATH= cd -- "$(dirname -- "$0")" && pwd)
 linker=$(command -v ld64.lld || command -v ld64.lld-14 || true)
