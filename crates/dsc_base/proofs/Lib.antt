@@ -6,5 +6,6 @@ pub mod OutsideLaws
 pub mod Passing
 pub mod SignedLaws
 pub mod SlebLaws
+pub mod SpeltLaws
 pub mod StepLaws
 pub mod UlebLaws

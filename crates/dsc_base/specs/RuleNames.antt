@@ -1,7 +1,7 @@
 -- The number and the name of each Rule.
 use Rattle.std.specs.Prelude.{ℕ, List, codes}
 use Rattle.dsc_base.specs.declared.rule.Rule.{Rule}
-use Rattle.dsc_base.specs.declared.rule.Rule.TheVariants.{FileTooLarge, InputTooLarge, NotMachO, NoSlice, WrongKind, CommandShape, UnknownCommand, CommandTwice, NoInstallName, SegmentShape, SegmentProt, SectionShape, Interposing, HasRelocations, NameText, UnsafeName, LinkeditRange, RebaseBadUleb, RebaseBadOpcode, RebaseBadType, RebaseOutsideSegment, RebaseNotWritable, RebaseOutsideSection, RebaseMisaligned, RebaseCrossesPage, RebaseTooMany, RebasedTwice, BindBadUleb, BindBadOpcode, BindBadType, BindOutsideSegment, BindNotWritable, BindOutsideSection, BindMisaligned, BindCrossesPage, BindTooMany, BindTwice, BindBeforeSet, BindMainLookup, BindFlatLookup, BindWeakLookup, BindThreaded, BindBadName, LazyBadUleb, LazyBadOpcode, LazyBadType, LazyOutsideSegment, LazyNotWritable, LazyOutsideSection, LazyMisaligned, LazyCrossesPage, LazyTooMany, LazyTwice, LazyBeforeSet, LazyMainLookup, LazyFlatLookup, LazyWeakLookup, LazyThreaded, LazyBadName, WeakBinding, WordsOverlap, TrieBadUleb, TrieEnded, TrieNodeTwice, TrieSiblingsClash, TrieBadFlags, TrieResolver, TrieBadNode, TrieTooManyNames, NoSplitInfo, SplitNotV2, SplitBadUleb, SplitBadKind, SplitBadSection, SplitOutsideSection, SplitPointerNotRebased, SplitTooMany, SplitOverlap, TableNameOutside, TableBadSection, TableIndexOutside, SetTooLarge, DuplicateName, RelativeDependency, MissingDependency, ExportOutside, BadOrdinal, UnresolvedSymbol, ReexportLoop, PointsIntoLinkedit, RebaseOutside, PointerOutOfRange, SpanTooLarge, DeltaOutOfRange, OffsetOutOfRange, BoundOutOfRange, TooManyExtras, LinkeditTooLarge, PatchShape, NotYet}
+use Rattle.dsc_base.specs.declared.rule.Rule.TheVariants.{FileTooLarge, InputTooLarge, NotMachO, NoSlice, WrongKind, CommandShape, UnknownCommand, CommandTwice, NoInstallName, SegmentShape, SegmentProt, SectionShape, Interposing, HasRelocations, NameText, UnsafeName, LinkeditRange, RebaseBadUleb, RebaseBadOpcode, RebaseBadType, RebaseOutsideSegment, RebaseNotWritable, RebaseOutsideSection, RebaseMisaligned, RebaseCrossesPage, RebaseTooMany, RebasedTwice, BindBadUleb, BindBadOpcode, BindBadType, BindOutsideSegment, BindNotWritable, BindOutsideSection, BindMisaligned, BindCrossesPage, BindTooMany, BindTwice, BindBeforeSet, BindMainLookup, BindFlatLookup, BindWeakLookup, BindThreaded, BindBadName, LazyBadUleb, LazyBadOpcode, LazyBadType, LazyOutsideSegment, LazyNotWritable, LazyOutsideSection, LazyMisaligned, LazyCrossesPage, LazyTooMany, LazyTwice, LazyBeforeSet, LazyMainLookup, LazyFlatLookup, LazyWeakLookup, LazyThreaded, LazyBadName, WeakBinding, WordsOverlap, TrieBadUleb, TrieEnded, TrieNodeTwice, TrieSiblingsClash, TrieBadFlags, TrieResolver, TrieBadNode, TrieTooManyNames, NoSplitInfo, SplitNotV2, SplitBadUleb, SplitBadKind, SplitBadSection, SplitOutsideSection, SplitPointerNotRebased, SplitTooMany, SplitOverlap, TableNameOutside, TableBadSection, TableIndexOutside, SetTooLarge, DuplicateName, RelativeDependency, MissingDependency, ExportOutside, BadOrdinal, UnresolvedSymbol, ReexportLoop, PointsIntoLinkedit, RebaseOutside, PointerOutOfRange, SpanTooLarge, DeltaOutOfRange, OffsetOutOfRange, BoundOutOfRange, TooManyExtras, LinkeditTooLarge, PatchShape}
 
 abbrev pub number_of : Rule → ℕ
 number_of FileTooLarge = 1
@@ -103,7 +103,6 @@ number_of BoundOutOfRange = 153
 number_of TooManyExtras = 161
 number_of LinkeditTooLarge = 171
 number_of PatchShape = 182
-number_of NotYet = 190
 
 abbrev pub name_of : Rule → List ℕ
 name_of FileTooLarge = codes "FileTooLarge"
@@ -205,4 +204,3 @@ name_of BoundOutOfRange = codes "BoundOutOfRange"
 name_of TooManyExtras = codes "TooManyExtras"
 name_of LinkeditTooLarge = codes "LinkeditTooLarge"
 name_of PatchShape = codes "PatchShape"
-name_of NotYet = codes "NotYet"

@@ -104,7 +104,6 @@ pub enum Rule {
     TooManyExtras,
     LinkeditTooLarge,
     PatchShape,
-    NotYet,
 }
 
 impl Rule {
@@ -212,7 +211,6 @@ impl Rule {
             Rule::TooManyExtras => 161,
             Rule::LinkeditTooLarge => 171,
             Rule::PatchShape => 182,
-            Rule::NotYet => 190,
         }
     }
 
@@ -320,7 +318,6 @@ impl Rule {
             Rule::TooManyExtras => "TooManyExtras",
             Rule::LinkeditTooLarge => "LinkeditTooLarge",
             Rule::PatchShape => "PatchShape",
-            Rule::NotYet => "NotYet",
         }
     }
 }

@@ -17,7 +17,6 @@ pub mod SumLaws
 pub mod Unbroken
 pub mod WordCases
 pub mod SpreadLaws
-pub mod SpeltLaws
 pub mod LoadedWords
 pub mod LoadedReferences
 pub mod RuledWords

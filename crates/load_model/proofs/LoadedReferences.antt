@@ -33,7 +33,7 @@ use Rattle.load_model.proofs.NumberLaws.{address_on}
 use Rattle.load_model.proofs.LoadingLaws.{IsLow, low_at, length-in_memory, in_memory-byte, loaded_cell}
 use Rattle.load_model.proofs.BoundLaws.{places_of}
 use Rattle.load_model.proofs.RebasedLaws.{IsFree, free_byte, rebases_low}
-use Rattle.load_model.proofs.SpeltLaws.{spelt_byte}
+use Rattle.dsc_base.proofs.SpeltLaws.{spelt_byte}
 use Rattle.load_model.proofs.WordCases.{IsIn, in_cases, in_none, in_map, all_in}
 use Rattle.load_model.proofs.SpreadLaws.{free_of_binds, free_of_rebases, rebases_read}
 use Rattle.load_model.proofs.LoadedWords.{IsReadImage, unbound_cell, slid_start}

@@ -6,7 +6,8 @@ use Rattle.std.proofs.lemmas.List.{take_at, drop_at, take-append-drop, length-ta
 use Rattle.std.proofs.lemmas.Bool.{eqb-true}
 use Rattle.std.specs.Cmp.Lexicographic.{same_text}
 use Rattle.dsc_base.proofs.NumberLaws.{number_at-lt, number_at-take}
-use Rattle.patch_table.proofs.ByteLaws.{part_again, number_again, take_bytes}
+use Rattle.patch_table.proofs.ByteLaws.{part_again, number_again}
+use Rattle.dsc_base.proofs.SpeltLaws.{bytes_taken}
 use Rattle.std.proofs.lemmas.Bool.Decides.{nat_tests}
 use Rattle.dsc_base.specs.Numbers.{number_at}
 use Rattle.dsc_base.specs.Fields.{spelled, field_at, AreWhole}
@@ -192,7 +193,7 @@ head_spelt b rest cached own bytes has cached_is own_is follows =
     let uuid : take 16 (drop 0x10 b) ≡ take 16 (drop 0x10 (take 0x30 b)) =
     sym (take-take 16 0x20 (drop 0x10 b) (omega arith)) ∙ ap (λ (l : List ℕ). take 16 l) (sym (drop-take 0x10 0x20 b)) in
     ap₂ (λ (x y : List ℕ). x ++ y)
-    (head_again (take 0x30 b) (take 16 (drop 0x10 b)) (nat_eq (number_at 4 b 0x20) 2) (number_at 4 b 0x24) cached own (length-take-le 0x30 b room) (take_bytes 0x30 b room bytes)
+    (head_again (take 0x30 b) (take 16 (drop 0x10 b)) (nat_eq (number_at 4 b 0x20) 2) (number_at 4 b 0x24) cached own (length-take-le 0x30 b room) (bytes_taken 0x30 b room bytes)
     begins uuid (has.kind ∙ number 0x20 (omega arith)) (number 0x24 (omega arith)) (cached_is ∙ number 0x28 (omega arith)) (own_is ∙ number 0x2C (omega arith)))
     follows
     ∙ take-append-drop 0x30 b

@@ -1,5 +1,5 @@
 //! Tables of patches: the words of a cache, and of an image that is no part of it, that get another value so
-//! that both work together. The format is this project's own; `docs/FORMATS.md` has it.
+//! that both work together. The format is this project's own; `docs/CACHE.md` has it.
 #![tactic(auto)]
 
 mod patches;

@@ -38,14 +38,16 @@ spelt_by (y ∷ ys) bytes =
           (behind.is ∙ (ap (λ (n : ℕ). little_bytes (length ys) n) (sym rest) ∙ sym (bytes_shift 0 (length ys) (y + 256 * behind.value))));
     }
 
-bytes_taken : (w : ℕ) (b : List ℕ) → w ≤ length b → ((k : ℕ) → get_or b k 0 < 256) → (k : ℕ) → get_or (take w b) k 0 < 256
+-- the first bytes of bytes
+pub bytes_taken : (w : ℕ) (b : List ℕ) → w ≤ length b → ((k : ℕ) → get_or b k 0 < 256) → (k : ℕ) → get_or (take w b) k 0 < 256
 bytes_taken w b le bytes k =
     elim (cases_lt k w) [
       | inl below ↦ subst (λ (n : ℕ). n < 256) (sym (get_or-take w b k 0 below)) (bytes k)
       | inr past ↦ subst (λ (n : ℕ). n < 256) (sym (get_or_past (take w b) k 0 (omega (arith, past, length-take-le w b le)))) (omega arith)
     ]
 
-first_bytes : (w : ℕ) (b : List ℕ) → w ≤ length b → ((k : ℕ) → get_or b k 0 < 256) → little_bytes w (number_at w b 0) ≡ take w b
+-- the bytes of the number in the first w bytes
+pub first_bytes : (w : ℕ) (b : List ℕ) → w ≤ length b → ((k : ℕ) → get_or b k 0 < 256) → little_bytes w (number_at w b 0) ≡ take w b
 first_bytes w b le bytes =
     let long : length (take w b) ≡ w = length-take-le w b le in
     let found : IsSpelt (take w b) = spelt_by (take w b) (bytes_taken w b le bytes) in
@@ -55,6 +57,7 @@ first_bytes w b le bytes =
     ap (λ (l : List ℕ). number_at w l 0) (sym (take-append-drop w b) ∙ ap (λ (l : List ℕ). l ++ drop w b) is) ∙ number_at-little_bytes w found.value (drop w b) small in
     ap (little_bytes w) read ∙ sym is
 
+-- one byte of the number that is read at a place
 pub spelt_byte : (w at k : ℕ) (b : List ℕ) → at + w ≤ length b → ((m : ℕ) → get_or b m 0 < 256) → k < w → get_or (little_bytes w (number_at w b at)) k 0 ≡ get_or b (at + k) 0
 spelt_byte w at k b within bytes lt =
     ap (λ (n : ℕ). get_or (little_bytes w n) k 0) (sym (number_at-drop_at w at b))
