@@ -5,8 +5,6 @@
 mod bind;
 mod clash;
 mod fault;
-#[cfg(test)]
-mod fixture;
 mod kind;
 mod opcode;
 mod read;

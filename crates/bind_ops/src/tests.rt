@@ -1,9 +1,9 @@
 // Streams for one dylib and for two that differ in their data: the binds of those that keep the rules, and for
 // each of rules 41 to 56 streams that break it, some of them lazy ones; words that clash; and weak binds.
-use crate::fixture::{SHORT, WIDE, file_with};
 use crate::{Bind, StreamKind, check_weak, read_binds, words_clash};
 use dsc_base::{Fault, Site};
 use macho_image::{Form, Image, Location, read_image};
+use sample_dylibs::{SHORT, WIDE, data_dylib, put_numbers};
 use std::alloc::Global;
 use std::process::Abort;
 use std::test::Fail;
@@ -253,6 +253,14 @@ const CLASHES: [Words; 11] = [
         Some(0xffff_ffff_ffff_fffe),
     ),
 ];
+
+// The dylib with data without its rebases, and with these edits.
+fn file_with(alloc: Global, edits: &[(usize, u32)]) -> Result<Vec<u8>, Fail> {
+    let mut file = data_dylib(alloc, 0x3040)?;
+    put_numbers(&mut file, &[(0x1c8, 0), (0x1cc, 0)]);
+    put_numbers(&mut file, edits);
+    Ok(file)
+}
 
 fn place(address: u64) -> Location {
     Location {

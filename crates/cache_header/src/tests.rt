@@ -3,7 +3,8 @@ ghost use Rattle.std.specs.Prelude.{◌≡◌, length, IfOk};
 ghost use Rattle.cache_header.specs.Spelling.{IsWritable};
 
 use super::*;
-use dsc_base::{Name, Span, ViewFault, put_u32};
+use dsc_base::{Name, Span, ViewFault};
+use sample_dylibs::put_numbers;
 use std::alloc::Global;
 use std::test::*;
 
@@ -125,19 +126,11 @@ const CASES: [(&[(usize, u32)], usize, u16, u32, u64); 37] = [
     (&[(0x10, 0x1f), (0xc, 0x0)], 0x30000, 202, 0, 0x0),
 ];
 
-fn put_all(file: &mut [u8], numbers: &[(usize, u32)]) {
-    for (place, value) in numbers {
-        if *place < file.len() && file.len() - *place >= 4 {
-            put_u32(file, *place, *value);
-        }
-    }
-}
-
 // A file of so many bytes with the head and these numbers in it, cut to a length.
 fn file_with(alloc: Global, edits: &[(usize, u32)], len: usize) -> Result<Vec<u8>, Fail> {
     let mut file = vec![in alloc; 0u8; 0x30000]?;
-    put_all(&mut file, &HEAD);
-    put_all(&mut file, edits);
+    put_numbers(&mut file, &HEAD);
+    put_numbers(&mut file, edits);
     file.truncate(len);
     Ok(file)
 }

@@ -3,85 +3,11 @@ ghost use Rattle.std.specs.Prelude.{◌≡◌, ◌≤◌, ◌<◌, length, IfOk,
 ghost use Rattle.cache_layout.specs.Layouts.{layout_of};
 
 use super::*;
-use dsc_base::{Break, Rule, SetFault, Span, put_u32};
+use dsc_base::{Break, Rule, SetFault, Span};
 use macho_image::{Form, Image, read_image};
+use sample_dylibs::{data_dylib, put_numbers};
 use std::alloc::Global;
 use std::test::*;
-
-// The numbers of four bytes in a dylib of 0x2040 bytes, each with its place; all others are 0. It has a
-// text and a data segment of one section each, an install name, dyld info and split information.
-const DYLIB: [(usize, u32); 70] = [
-    (0x0, 0xfeedfacf),
-    (0x4, 0x1000007),
-    (0x8, 0x3),
-    (0xc, 0x6),
-    (0x10, 0x6),
-    (0x14, 0x1e0),
-    (0x18, 0x80),
-    (0x20, 0x19),
-    (0x24, 0x98),
-    (0x28, 0x45545f5f),
-    (0x2c, 0x5458),
-    (0x40, 0x1000),
-    (0x50, 0x1000),
-    (0x58, 0x5),
-    (0x5c, 0x5),
-    (0x60, 0x1),
-    (0x68, 0x65745f5f),
-    (0x6c, 0x7478),
-    (0x78, 0x45545f5f),
-    (0x7c, 0x5458),
-    (0x88, 0x400),
-    (0x90, 0x800),
-    (0x98, 0x400),
-    (0xb8, 0x19),
-    (0xbc, 0x98),
-    (0xc0, 0x41445f5f),
-    (0xc4, 0x4154),
-    (0xd0, 0x1000),
-    (0xd8, 0x1000),
-    (0xe0, 0x1000),
-    (0xe8, 0x1000),
-    (0xf0, 0x3),
-    (0xf4, 0x3),
-    (0xf8, 0x1),
-    (0x100, 0x61645f5f),
-    (0x104, 0x6174),
-    (0x110, 0x41445f5f),
-    (0x114, 0x4154),
-    (0x120, 0x1000),
-    (0x128, 0x1000),
-    (0x130, 0x1000),
-    (0x150, 0x19),
-    (0x154, 0x48),
-    (0x158, 0x494c5f5f),
-    (0x15c, 0x44454b4e),
-    (0x160, 0x5449),
-    (0x168, 0x2000),
-    (0x170, 0x1000),
-    (0x178, 0x2000),
-    (0x180, 0x40),
-    (0x188, 0x1),
-    (0x18c, 0x1),
-    (0x198, 0xd),
-    (0x19c, 0x28),
-    (0x1a0, 0x18),
-    (0x1a8, 0x10000),
-    (0x1ac, 0x10000),
-    (0x1b0, 0x642e612f),
-    (0x1b4, 0x62696c79),
-    (0x1c0, 0x80000022),
-    (0x1c4, 0x30),
-    (0x1c8, 0x2000),
-    (0x1cc, 0x5),
-    (0x1f0, 0x1e),
-    (0x1f4, 0x10),
-    (0x1f8, 0x2008),
-    (0x1fc, 0x2),
-    (0x1010, 0x1020),
-    (0x2000, 0x51102111),
-    (0x2008, 0x7f),
-];
 
 // Another name of the same length.
 const OTHER: &[(usize, u32)] = &[(0x1b0, 0x642e622f)];
@@ -150,25 +76,21 @@ const CASES: [(
     (&[(0x50, LARGE)], &[], [(0, 0), (0, 0), (0, 0)], 0x20003000),
 ];
 
-fn put_all(file: &mut [u8], further: usize, numbers: &[(usize, u32)])
-    requires { further ≤ 80 }
+// The commands behind the data segment's, which end at 0x200, so many bytes further back.
+fn push_back(file: &mut [u8], further: usize)
+    requires room { 0x250 ≤ length file.old }
+    requires further { further ≤ 0x50 }
 {
-    for (place, value) in numbers {
-        let at = if *place >= 0x150 && *place < 0x200 {
-            *place + further
-        } else {
-            *place
-        };
-        if at < file.len() && file.len() - at >= 4 {
-            put_u32(file, at, *value);
-        }
+    for place in (0x150..0x200).rev() {
+        file[place + further] = file[place];
     }
+    file[0x150..0x150 + further].fill(0);
 }
 
 fn file_with(alloc: Global, further: usize, edits: &[(usize, u32)]) -> Result<Vec<u8>, Fail> {
-    let mut file = vec![in alloc; 0u8; 0x2040]?;
-    put_all(&mut file, further.min(0x50), &DYLIB);
-    put_all(&mut file, 0, edits);
+    let mut file = data_dylib(alloc, 0x2040)?;
+    push_back(&mut file, further.min(0x50));
+    put_numbers(&mut file, edits);
     Ok(file)
 }
 

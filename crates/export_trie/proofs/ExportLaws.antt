@@ -36,7 +36,7 @@ put_moves e (f ∷ fs) = elim (cases_Bool (comes_before f e)) [
   | inr ge ↦ subst (λ (xs : List Export). IsPermutation (e ∷ f ∷ fs) xs) (sym (put-here e f fs ge)) (IsPermutation-refl (e ∷ f ∷ fs))
 ]
 
-order_moves : (es : List Export) → IsPermutation es (by_name es)
+pub order_moves : (es : List Export) → IsPermutation es (by_name es)
 order_moves [] = IsPermutation-refl []
 order_moves (e ∷ es) =
     IsPermutation-trans (e ∷ es) (e ∷ by_name es) (put_by_name e (by_name es)) (IsPermutation-cons e es (by_name es) (order_moves es)) (put_moves e (by_name es))

@@ -41,7 +41,7 @@ text_at-plain (byte ∷ bytes) text rest read =
     more : List ℕ × List ℕ → Result (List ℕ × List ℕ) Rule
     more t = Ok (byte ∷ t.0, t.1)
 
-number_at-small : (bytes : List ℕ) (value : ℕ) (rest : List ℕ) → number_at bytes ≡ Ok (value, rest) → value < 2 ^ 64
+pub number_at-small : (bytes : List ℕ) (value : ℕ) (rest : List ℕ) → number_at bytes ≡ Ok (value, rest) → value < 2 ^ 64
 unfolding number_at
 number_at-small bytes value rest read = go (uleb_at bytes 0) refl read
   where

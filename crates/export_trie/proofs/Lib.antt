@@ -1,3 +1,4 @@
+pub mod AcceptedTries
 pub mod BreakLaws
 pub mod ChildLaws
 pub mod EdgeLaws

@@ -15,6 +15,5 @@ pub mod ReadLaws
 pub mod Rows
 pub mod LeadLaws
 pub mod StartLaws
-pub mod AcceptedTries
 pub mod SpanLaws
 pub mod TrieLaws

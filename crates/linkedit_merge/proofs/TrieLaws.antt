@@ -14,7 +14,7 @@ use Rattle.export_trie.specs.Exports.{exports_of}
 use Rattle.export_trie.specs.Order.{trie_break}
 use Rattle.export_trie.specs.Planning.{HasNumber}
 use Rattle.export_trie.specs.Writing.{trie_bytes}
-use Rattle.linkedit_merge.proofs.AcceptedTries.{exports_writable, exports_numbers}
+use Rattle.export_trie.proofs.AcceptedTries.{exports_writable, exports_numbers}
 use Rattle.export_trie.proofs.ExportLaws.{read_back}
 use Rattle.linkedit_merge.specs.Exports.{new_header, offset_from, moved_offset, moved_target, moved_export, moved_exports}
 use Rattle.linkedit_merge.specs.ReadBack.{IsTrie}

@@ -10,72 +10,23 @@ ghost use Rattle.linkedit_merge.specs.Conditions.{HaveTables};
 use super::*;
 use cache_layout::{Layout, lay_out};
 use dep_closure::link_set;
-use dsc_base::put_u32;
 use macho_edit::LinkSpots;
 use macho_image::{Form, Image, read_image};
 use nlist_table::{Tables, read_tables};
 use prebind::{ImageStreams, Set, check_exports, read_streams};
+use sample_dylibs::{put_numbers, symbols_dylib};
 use std::alloc::Global;
 use std::test::*;
 
-// The numbers of four bytes in a dylib of 0xa000 bytes, each with its place; all others are 0. Its text
-// segment has one section, and its linkedit the symbols `_a` at 0x800 and `_b` at 0x900.
-const DYLIB: [(usize, u32); 63] = [
-    (0x0, 0xfeedfacf),
-    (0x4, 0x1000007),
-    (0x8, 0x3),
-    (0xc, 0x6),
-    (0x10, 0x5),
-    (0x14, 0x170),
-    (0x18, 0x80),
-    (0x20, 0x19),
-    (0x24, 0x98),
-    (0x28, 0x45545f5f),
-    (0x2c, 0x5458),
-    (0x40, 0x1000),
-    (0x50, 0x1000),
-    (0x58, 0x5),
-    (0x5c, 0x5),
-    (0x60, 0x1),
-    (0x68, 0x65745f5f),
-    (0x6c, 0x7478),
-    (0x78, 0x45545f5f),
-    (0x7c, 0x5458),
-    (0x88, 0x400),
-    (0x90, 0x800),
-    (0x98, 0x400),
-    (0xb8, 0x19),
-    (0xbc, 0x48),
-    (0xc0, 0x494c5f5f),
-    (0xc4, 0x44454b4e),
-    (0xc8, 0x5449),
-    (0xd0, 0x1000),
-    (0xd8, 0x9000),
-    (0xe0, 0x1000),
-    (0xe8, 0x9000),
-    (0xf0, 0x1),
-    (0xf4, 0x1),
-    (0x100, 0xd),
-    (0x104, 0x28),
-    (0x108, 0x18),
-    (0x110, 0x10000),
-    (0x114, 0x10000),
-    (0x118, 0x642e732f),
-    (0x11c, 0x62696c79),
-    (0x128, 0x2),
-    (0x12c, 0x18),
-    (0x130, 0x1000),
-    (0x140, 0xb),
-    (0x144, 0x50),
+// The symbols `_a` at 0x800 and `_b` at 0x900, and what the commands say of them.
+const TABLES: [(usize, u32); 15] = [
     (0x134, 0x2),
     (0x138, 0x1020),
     (0x13c, 0x7),
-    (0x148, 0x0),
     (0x14c, 0x1),
     (0x150, 0x1),
     (0x154, 0x1),
     (0x158, 0x2),
-    (0x15c, 0x0),
     (0x1000, 0x1),
     (0x1004, 0x10e),
     (0x1008, 0x800),
@@ -101,19 +52,11 @@ const CASES: [(&[u32], &[u32], (u64, u64)); 2] = [
     (&[0x642e732f, 0x642e742f], &TWO, (0x4040, 7)),
 ];
 
-fn put_all(file: &mut [u8], numbers: &[(usize, u32)]) {
-    for (place, value) in numbers {
-        if *place < file.len() && file.len() - *place >= 4 {
-            put_u32(file, *place, *value);
-        }
-    }
-}
-
 // A dylib whose install name begins with these four letters.
 fn file_of(alloc: Global, letters: u32) -> Result<Vec<u8>, Fail> {
-    let mut file = vec![in alloc; 0u8; 0xa000]?;
-    put_all(&mut file, &DYLIB);
-    put_all(&mut file, &[(0x118, letters)]);
+    let mut file = symbols_dylib(alloc, 0xa000)?;
+    put_numbers(&mut file, &TABLES);
+    put_numbers(&mut file, &[(0x118, letters)]);
     Ok(file)
 }
 

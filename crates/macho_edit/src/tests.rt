@@ -5,25 +5,12 @@ ghost use Rattle.macho_edit.specs.Conditions.{IsLow, AreLow, EndLow, CanMove};
 mod cases;
 
 use super::*;
-use cases::{CASES, Case};
-use dsc_base::{Span, put_u32};
+use cases::{CASES, Case, Front};
+use dsc_base::Span;
 use macho_image::{Form, Image, Moved, Moves, Segment, read_image};
+use sample_dylibs::{bytes_with, data_dylib, put_numbers};
 use std::alloc::Global;
 use std::test::*;
-
-fn put_all(bytes: &mut [u8], numbers: &[(usize, u32)]) {
-    for (place, value) in numbers {
-        if *place < bytes.len() && bytes.len() - *place >= 4 {
-            put_u32(bytes, *place, *value);
-        }
-    }
-}
-
-fn bytes_with(alloc: Global, len: usize, numbers: &[(usize, u32)]) -> Result<Vec<u8>, Fail> {
-    let mut bytes = vec![in alloc; 0u8; len]?;
-    put_all(&mut bytes, numbers);
-    Ok(bytes)
-}
 
 fn is_low(span: &Span) -> bool
     ensures { result ≡ true → IsLow span.now }
@@ -70,6 +57,14 @@ fn can_move(image: &Image<'_>, moves: &Moves, spots: &LinkSpots) -> bool
         && spots.indirect.len % 4 == 0
 }
 
+// The dylib of a case.
+fn file_of(alloc: Global, case: &Case) -> Result<Vec<u8>, Fail> {
+    match case.front {
+        Front::DataDylib => Ok(data_dylib(alloc, case.len)?),
+        Front::Numbers(numbers) => Ok(bytes_with(alloc, case.len, numbers)?),
+    }
+}
+
 // A file with nothing but a header at a place.
 fn file_with(alloc: Global, len: usize, place: usize, header: &[u8]) -> Result<Vec<u8>, Fail> {
     let mut file = vec![in alloc; 0u8; len]?;
@@ -91,7 +86,7 @@ fn alone_with(alloc: Global, moved: &Image<'_>, case: &Case) -> Result<Vec<u8>, 
         .ok()
         .ok_or("memory is left")?;
     let mut wanted = bytes_with(alloc, case.kept_len, case.header)?;
-    put_all(&mut wanted, case.alone);
+    put_numbers(&mut wanted, case.alone);
     if header.as_slice() != wanted.as_slice() {
         return Err("another header in a file of its own".into());
     }
@@ -102,7 +97,7 @@ fn alone_with(alloc: Global, moved: &Image<'_>, case: &Case) -> Result<Vec<u8>, 
 fn headers(rt: HostRuntime) -> Result<(), Fail> {
     let alloc = rt.alloc();
     for case in &CASES {
-        let file = bytes_with(alloc, case.len, case.file)?;
+        let file = file_of(alloc, case)?;
         let image = read_image(alloc, &file, 0, Form::Standalone)
             .ok()
             .ok_or("the dylib is read")?;

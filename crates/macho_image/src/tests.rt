@@ -6,86 +6,12 @@ mod universal;
 mod walk;
 
 use super::*;
-use dsc_base::{Fault, put_u32};
+use dsc_base::Fault;
+use sample_dylibs::{bytes_with, data_dylib, put_numbers};
 use std::alloc::Global;
 use std::test::*;
 
-// The numbers of four bytes in a dylib of 0x2040 bytes, each with its place; all others are 0. It has a
-// text and a data segment of one section each, an install name, dyld info and split information.
-const DYLIB: [(usize, u32); 70] = [
-    (0x0, 0xfeedfacf),
-    (0x4, 0x1000007),
-    (0x8, 0x3),
-    (0xc, 0x6),
-    (0x10, 0x6),
-    (0x14, 0x1e0),
-    (0x18, 0x80),
-    (0x20, 0x19),
-    (0x24, 0x98),
-    (0x28, 0x45545f5f),
-    (0x2c, 0x5458),
-    (0x40, 0x1000),
-    (0x50, 0x1000),
-    (0x58, 0x5),
-    (0x5c, 0x5),
-    (0x60, 0x1),
-    (0x68, 0x65745f5f),
-    (0x6c, 0x7478),
-    (0x78, 0x45545f5f),
-    (0x7c, 0x5458),
-    (0x88, 0x400),
-    (0x90, 0x800),
-    (0x98, 0x400),
-    (0xb8, 0x19),
-    (0xbc, 0x98),
-    (0xc0, 0x41445f5f),
-    (0xc4, 0x4154),
-    (0xd0, 0x1000),
-    (0xd8, 0x1000),
-    (0xe0, 0x1000),
-    (0xe8, 0x1000),
-    (0xf0, 0x3),
-    (0xf4, 0x3),
-    (0xf8, 0x1),
-    (0x100, 0x61645f5f),
-    (0x104, 0x6174),
-    (0x110, 0x41445f5f),
-    (0x114, 0x4154),
-    (0x120, 0x1000),
-    (0x128, 0x1000),
-    (0x130, 0x1000),
-    (0x150, 0x19),
-    (0x154, 0x48),
-    (0x158, 0x494c5f5f),
-    (0x15c, 0x44454b4e),
-    (0x160, 0x5449),
-    (0x168, 0x2000),
-    (0x170, 0x1000),
-    (0x178, 0x2000),
-    (0x180, 0x40),
-    (0x188, 0x1),
-    (0x18c, 0x1),
-    (0x198, 0xd),
-    (0x19c, 0x28),
-    (0x1a0, 0x18),
-    (0x1a8, 0x10000),
-    (0x1ac, 0x10000),
-    (0x1b0, 0x642e612f),
-    (0x1b4, 0x62696c79),
-    (0x1c0, 0x80000022),
-    (0x1c4, 0x30),
-    (0x1c8, 0x2000),
-    (0x1cc, 0x5),
-    (0x1f0, 0x1e),
-    (0x1f4, 0x10),
-    (0x1f8, 0x2008),
-    (0x1fc, 0x2),
-    (0x1010, 0x1020),
-    (0x2000, 0x51102111),
-    (0x2008, 0x7f),
-];
-
-// Edits of that file, its length, and the number of the rule that it breaks, or 0, with the place.
+// Edits of the dylib with data, its length, and the number of the rule that it breaks, or 0, with the place.
 const CASES: [(&[(usize, u32)], usize, u16, u64); 50] = [
     // the file itself
     (&[], 0x2040, 0, 0x0),
@@ -280,20 +206,6 @@ const CACHED: [(usize, u32); 46] = [
     (0x111c, 0x62696c79),
 ];
 
-fn put_all(file: &mut [u8], numbers: &[(usize, u32)]) {
-    for (place, value) in numbers {
-        if *place < file.len() && file.len() - *place >= 4 {
-            put_u32(file, *place, *value);
-        }
-    }
-}
-
-fn file_with(alloc: Global, len: usize, numbers: &[(usize, u32)]) -> Result<Vec<u8>, Fail> {
-    let mut file = vec![in alloc; 0u8; len]?;
-    put_all(&mut file, numbers);
-    Ok(file)
-}
-
 // The number and the place of the rule that a file breaks; none is 0.
 fn broken(alloc: Global, file: &[u8], header_at: u64, form: Form) -> Option<(u16, u64)>
     requires { form ≡ Standalone → header_at ≡ 0 }
@@ -310,7 +222,7 @@ fn crowded_dylib(alloc: Global, sections: u32) -> Result<Vec<u8>, Fail>
     requires { sections ≤ 256 }
 {
     let end = 0x68 + 80 * sections as usize;
-    let mut file = file_with(alloc, 0x8040, &DYLIB)?;
+    let mut file = data_dylib(alloc, 0x8040)?;
     file.truncate(0x68);
     file.resize(0x8040, 0)?;
     let sizes = [
@@ -341,12 +253,12 @@ fn crowded_dylib(alloc: Global, sections: u32) -> Result<Vec<u8>, Fail>
         (end + 0x60, 0x642e612f),
         (end + 0x64, 0x62696c79),
     ];
-    put_all(&mut file, &sizes);
+    put_numbers(&mut file, &sizes);
     for section in 0..sections {
-        put_all(&mut file, &[(0x88 + 80 * section as usize, 0x7000)]);
+        put_numbers(&mut file, &[(0x88 + 80 * section as usize, 0x7000)]);
     }
-    put_all(&mut file, &linkedit);
-    put_all(&mut file, &install_name);
+    put_numbers(&mut file, &linkedit);
+    put_numbers(&mut file, &install_name);
     Ok(file)
 }
 
@@ -364,8 +276,8 @@ fn sections_are_at_most_255(rt: HostRuntime) -> Result<(), Fail> {
 fn rules(rt: HostRuntime) -> Result<(), Fail> {
     let alloc = rt.alloc();
     for (edits, len, number, place) in CASES {
-        let mut file = file_with(alloc, 0x2040, &DYLIB)?;
-        put_all(&mut file, edits);
+        let mut file = data_dylib(alloc, 0x2040)?;
+        put_numbers(&mut file, edits);
         file.truncate(len);
         assert_eq!(rt;
             broken(alloc, &file, 0, Form::Standalone),
@@ -373,7 +285,7 @@ fn rules(rt: HostRuntime) -> Result<(), Fail> {
             "rule {number} at {place:x}"
         );
     }
-    let cache = file_with(alloc, 0x4000, &CACHED)?;
+    let cache = bytes_with(alloc, 0x4000, &CACHED)?;
     let alone = cache.get(0x1000..).ok_or("the cache is longer than that")?;
     assert_eq!(rt; broken(alloc, alone, 0, Form::Standalone), Some((5, 24)));
     assert_eq!(rt; broken(alloc, &cache, 0x4000, Form::Cached), Some((3, 0)));
@@ -387,7 +299,7 @@ fn rules(rt: HostRuntime) -> Result<(), Fail> {
         assert_eq!(rt; text.vmaddr, 0x7FFF_2000_1000);
         assert_eq!(rt; text.bytes.len(), 0x1000);
     }
-    let file = file_with(alloc, 0x2040, &DYLIB)?;
+    let file = data_dylib(alloc, 0x2040)?;
     let image = read_image(alloc, &file, 0, Form::Standalone)
         .ok()
         .ok_or("the dylib is read")?;

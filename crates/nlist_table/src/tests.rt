@@ -7,71 +7,12 @@ mod cases;
 
 use self::cases::{CASES, Case, Found, Nlist, Tabled};
 use super::*;
-use dsc_base::{Fault, put_u32};
+use dsc_base::Fault;
 use macho_image::{Form, Image, Moved, Moves, read_image};
+use sample_dylibs::{put_numbers, symbols_dylib};
 use std::alloc::Global;
 use std::process::Abort;
 use std::test::*;
-
-// The numbers of four bytes in a dylib of 0xa000 bytes, each with its place; all others are 0. Its text
-// segment has one section, and its linkedit begins with the symbols.
-const DYLIB: [(usize, u32); 47] = [
-    (0x0, 0xfeedfacf),
-    (0x4, 0x1000007),
-    (0x8, 0x3),
-    (0xc, 0x6),
-    (0x10, 0x5),
-    (0x14, 0x170),
-    (0x18, 0x80),
-    (0x20, 0x19),
-    (0x24, 0x98),
-    (0x28, 0x45545f5f),
-    (0x2c, 0x5458),
-    (0x40, 0x1000),
-    (0x50, 0x1000),
-    (0x58, 0x5),
-    (0x5c, 0x5),
-    (0x60, 0x1),
-    (0x68, 0x65745f5f),
-    (0x6c, 0x7478),
-    (0x78, 0x45545f5f),
-    (0x7c, 0x5458),
-    (0x88, 0x400),
-    (0x90, 0x800),
-    (0x98, 0x400),
-    (0xb8, 0x19),
-    (0xbc, 0x48),
-    (0xc0, 0x494c5f5f),
-    (0xc4, 0x44454b4e),
-    (0xc8, 0x5449),
-    (0xd0, 0x1000),
-    (0xd8, 0x9000),
-    (0xe0, 0x1000),
-    (0xe8, 0x9000),
-    (0xf0, 0x1),
-    (0xf4, 0x1),
-    (0x100, 0xd),
-    (0x104, 0x28),
-    (0x108, 0x18),
-    (0x110, 0x10000),
-    (0x114, 0x10000),
-    (0x118, 0x642e732f),
-    (0x11c, 0x62696c79),
-    (0x128, 0x2),
-    (0x12c, 0x18),
-    (0x130, 0x1000),
-    (0x140, 0xb),
-    (0x144, 0x50),
-    (0x134, 0x0),
-];
-
-fn put_all(file: &mut [u8], numbers: &[(usize, u32)]) {
-    for (place, value) in numbers {
-        if *place < file.len() && file.len() - *place >= 4 {
-            put_u32(file, *place, *value);
-        }
-    }
-}
 
 fn short(len: usize) -> Result<u32, Fail> {
     Ok(u32::try_from(len).ok().ok_or("a short table")?)
@@ -89,7 +30,7 @@ fn append_symbols(file: &mut Vec<u8>, symbols: &[Nlist]) -> Result<(), Fail> {
 
 // The dylib with these tables: symbols, indirect entries and strings, one behind the other.
 fn file_with(alloc: Global, case: &Case) -> Result<Vec<u8>, Fail> {
-    let mut file = vec![in alloc; 0u8; 0x1000]?;
+    let mut file = symbols_dylib(alloc, 0x1000)?;
     append_symbols(&mut file, case.symbols)?;
     let indirect_at = short(file.len())?;
     for index in case.indirect {
@@ -101,7 +42,6 @@ fn file_with(alloc: Global, case: &Case) -> Result<Vec<u8>, Fail> {
     }
     let strings_len = short(file.len())?.saturating_sub(strings_at);
     file.resize(0xa000, 0)?;
-    put_all(&mut file, &DYLIB);
     let tables = [
         (0x134, short(case.symbols.len())?),
         (0x138, strings_at),
@@ -115,7 +55,7 @@ fn file_with(alloc: Global, case: &Case) -> Result<Vec<u8>, Fail> {
         (0x178, indirect_at),
         (0x17c, short(case.indirect.len())?),
     ];
-    put_all(&mut file, &tables);
+    put_numbers(&mut file, &tables);
     Ok(file)
 }
 

@@ -1,6 +1,7 @@
 // Tables of patches made by hand: read, written again, and with the changes that no table has.
 use super::*;
-use dsc_base::{Fault, Rule, put_u32};
+use dsc_base::{Fault, Rule};
+use sample_dylibs::put_numbers;
 use std::alloc::Global;
 use std::test::*;
 
@@ -78,18 +79,10 @@ const CASES: [(&[(usize, u32)], usize, bool); 26] = [
     ),
 ];
 
-fn put_all(bytes: &mut [u8], numbers: &[(usize, u32)]) {
-    for (place, value) in numbers {
-        if *place < bytes.len() && bytes.len() - *place >= 4 {
-            put_u32(bytes, *place, *value);
-        }
-    }
-}
-
 fn table_with(alloc: Global, len: usize, edits: &[(usize, u32)]) -> Result<Vec<u8>, Fail> {
     let mut bytes = vec![in alloc; 0u8; 0x60]?;
-    put_all(&mut bytes, &TABLE);
-    put_all(&mut bytes, edits);
+    put_numbers(&mut bytes, &TABLE);
+    put_numbers(&mut bytes, edits);
     bytes.resize(len, 0)?;
     Ok(bytes)
 }

@@ -222,7 +222,7 @@ and_second true y e = e
 and_second false y e = absurd (false≢true e)
 
 -- the bits from 48 up are free
-set-outside : (bits : ℕ) (edits : List Edit) (bytes ws : List ℕ) → AllInside (length bytes) edits → AllApart edits → AllFit edits → HavePointers edits ws → AreOutside ((2 ^ bits - 1) * 2 ^ 48) (put_all edits bytes) ws
+pub set-outside : (bits : ℕ) (edits : List Edit) (bytes ws : List ℕ) → AllInside (length bytes) edits → AllApart edits → AllFit edits → HavePointers edits ws → AreOutside ((2 ^ bits - 1) * 2 ^ 48) (put_all edits bytes) ws
 set-outside bits edits bytes [] inside apart fit pointers = tt
 set-outside bits edits bytes (a ∷ ws) inside apart fit pointers =
     let p : HasPointer edits a = pointers.0 in

@@ -1,6 +1,7 @@
 // Which part of a file is picked, of files made by a few numbers each.
-use super::file_with;
+
 use crate::pick_slice;
+use sample_dylibs::bytes_with;
 use std::test::*;
 
 // The magic of a universal file and of a dylib, and the two processors, as little-endian numbers of the
@@ -144,7 +145,7 @@ fn picked(file: &[u8]) -> (u16, u64, u64) {
 fn slices(rt: HostRuntime) -> Result<(), Fail> {
     let alloc = rt.alloc();
     for (numbers, len, slice) in FILES {
-        let file = file_with(alloc, len, numbers)?;
+        let file = bytes_with(alloc, len, numbers)?;
         assert_eq!(rt; picked(&file), slice, "{len} bytes, {slice:?}");
     }
     Ok(())

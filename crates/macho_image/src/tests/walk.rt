@@ -1,8 +1,8 @@
 // The commands of a dylib, and numbers at addresses of its segments.
-use super::{DYLIB, file_with};
 use crate::{
     Form, Location, half_at_address, header_address, number_at_address, read_image, value_at,
 };
+use sample_dylibs::data_dylib;
 use std::test::*;
 
 // The offset and the number of each command.
@@ -27,7 +27,7 @@ const NUMBERS: [(u64, u64); 5] = [
 #[test]
 fn commands_and_numbers(rt: HostRuntime) -> Result<(), Fail> {
     let alloc = rt.alloc();
-    let file = file_with(alloc, 0x2040, &DYLIB)?;
+    let file = data_dylib(alloc, 0x2040)?;
     let image = read_image(alloc, &file, 0, Form::Standalone)
         .ok()
         .ok_or("the dylib is read")?;

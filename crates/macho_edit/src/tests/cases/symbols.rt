@@ -1,13 +1,13 @@
 // A text segment with a zero-fill section behind its bytes in the file, an install name, a code signature,
 // both symbol tables, function starts and data in code.
-use super::Case;
+use super::{Case, Front};
 use crate::LinkSpots;
 use dsc_base::Span;
 use macho_image::Moved;
 
 pub(super) const SYMBOLS: Case = Case {
     len: 0x1100,
-    file: &[
+    front: Front::Numbers(&[
         (0x0, 0xfeedfacf),
         (0x4, 0x1000007),
         (0x8, 0x3),
@@ -84,7 +84,7 @@ pub(super) const SYMBOLS: Case = Case {
         (0x200, 0x29),
         (0x204, 0x10),
         (0x208, 0x1038),
-    ],
+    ]),
     moves: &[
         Moved {
             address: 0x7fff20005000,

@@ -1,11 +1,12 @@
-// A small dylib, in whose data words are bound.
-use dsc_base::put_u32;
-use std::alloc::Global;
-use std::test::Fail;
+// A dylib with a text and a data segment of one section each, one rebase, and no references.
+ghost use Rattle.std.specs.Prelude.{◌≡◌, length, IfOk};
 
-// The numbers of four bytes in a dylib of 0x2040 bytes, each with its place; all others are 0. It has a
-// text and a data segment of one section each, an install name, dyld info and split information.
-const DYLIB: [(usize, u32); 68] = [
+use crate::bytes_with;
+use std::alloc::{AllocError, Global};
+
+// `/a.dylib`: `__text` is 0x400 to 0xC00, `__data` is 0x1000 to 0x2000, and the linkedit is 0x40 bytes at 0x2000.
+const NUMBERS: [(usize, u32); 70] = [
+    // mach_header_64
     (0x0, 0xfeedfacf),
     (0x4, 0x1000007),
     (0x8, 0x3),
@@ -13,6 +14,7 @@ const DYLIB: [(usize, u32); 68] = [
     (0x10, 0x6),
     (0x14, 0x1e0),
     (0x18, 0x80),
+    // LC_SEGMENT_64 of __TEXT, and its __text
     (0x20, 0x19),
     (0x24, 0x98),
     (0x28, 0x45545f5f),
@@ -29,6 +31,7 @@ const DYLIB: [(usize, u32); 68] = [
     (0x88, 0x400),
     (0x90, 0x800),
     (0x98, 0x400),
+    // LC_SEGMENT_64 of __DATA, and its __data
     (0xb8, 0x19),
     (0xbc, 0x98),
     (0xc0, 0x41445f5f),
@@ -47,6 +50,7 @@ const DYLIB: [(usize, u32); 68] = [
     (0x120, 0x1000),
     (0x128, 0x1000),
     (0x130, 0x1000),
+    // LC_SEGMENT_64 of __LINKEDIT
     (0x150, 0x19),
     (0x154, 0x48),
     (0x158, 0x494c5f5f),
@@ -58,6 +62,7 @@ const DYLIB: [(usize, u32); 68] = [
     (0x180, 0x40),
     (0x188, 0x1),
     (0x18c, 0x1),
+    // LC_ID_DYLIB
     (0x198, 0xd),
     (0x19c, 0x28),
     (0x1a0, 0x18),
@@ -65,19 +70,24 @@ const DYLIB: [(usize, u32); 68] = [
     (0x1ac, 0x10000),
     (0x1b0, 0x642e612f),
     (0x1b4, 0x62696c79),
+    // LC_DYLD_INFO_ONLY
     (0x1c0, 0x80000022),
     (0x1c4, 0x30),
+    (0x1c8, 0x2000),
+    (0x1cc, 0x5),
+    // LC_SEGMENT_SPLIT_INFO
     (0x1f0, 0x1e),
     (0x1f4, 0x10),
     (0x1f8, 0x2008),
     (0x1fc, 0x2),
+    // a pointer to itself and 0x10 bytes on, the rebase stream and the split-segment information
     (0x1010, 0x1020),
     (0x2000, 0x51102111),
     (0x2008, 0x7f),
 ];
 
-// The same with a data segment of two pages, and with a data section of half a page.
-pub(crate) const WIDE: [(usize, u32); 6] = [
+/// What makes the data segment of the dylib two pages, with the linkedit behind it.
+pub const WIDE: [(usize, u32); 6] = [
     (0xd8, 0x2000),
     (0xe8, 0x2000),
     (0x128, 0x2000),
@@ -86,20 +96,12 @@ pub(crate) const WIDE: [(usize, u32); 6] = [
     (0x1f8, 0x3008),
 ];
 
-pub(crate) const SHORT: [(usize, u32); 1] = [(0x128, 0x800)];
+/// What makes the data section of the dylib half a page.
+pub const SHORT: [(usize, u32); 1] = [(0x128, 0x800)];
 
-fn put_all(file: &mut [u8], numbers: &[(usize, u32)]) {
-    for (place, value) in numbers {
-        if *place < file.len() && file.len() - *place >= 4 {
-            put_u32(file, *place, *value);
-        }
-    }
-}
-
-// The dylib with these edits.
-pub(crate) fn file_with(alloc: Global, edits: &[(usize, u32)]) -> Result<Vec<u8>, Fail> {
-    let mut file = vec![in alloc; 0u8; 0x3040]?;
-    put_all(&mut file, &DYLIB);
-    put_all(&mut file, edits);
-    Ok(file)
+/// The dylib at the front of so many bytes; whole it has 0x2040. `AllocError` where memory ran out.
+pub fn data_dylib(alloc: Global, len: usize) -> Result<Vec<u8>, AllocError>
+    ensures { IfOk result (λ v. length v.items ≡ len) }
+{
+    bytes_with(alloc, len, &NUMBERS)
 }

@@ -2,46 +2,24 @@
 use Rattle.std.proofs.Common.{◌≡◌, ◌<◌, ℕ, zero, suc, ◌-◌, ◌^◌, List, [], ◌∷◌, drop, length, get_or, refl, sym, subst, ◌∙◌, arith, inl, inr, Bool, true, false, cond}
 use Rattle.std.specs.Prelude.{nat_eq, nat_lt, Option, Some, None, Result, Ok, Err, if◌then◌else◌}
 use Rattle.std.specs.List.{All}
-use Rattle.std.specs.List.Sorted.{IsPermutation}
 use Rattle.std.proofs.lemmas.Bool.{cond-true, cond-false, cases_Bool}
-use Rattle.std.proofs.lemmas.List.Sorted.{IsPermutation-refl, IsPermutation-cons, IsPermutation-trans, IsPermutation-insert}
-use Rattle.dsc_base.specs.declared.fault.UlebFault.{UlebFault}
 use Rattle.dsc_base.specs.declared.rule.Rule.{Rule}
 use Rattle.dsc_base.specs.declared.rule.Rule.TheVariants.{TrieBadNode}
 use Rattle.dsc_base.specs.Limits.{name_limit}
-use Rattle.dsc_base.specs.Uleb.{uleb_at}
-use Rattle.dsc_base.proofs.UlebLaws.{uleb_at-fits}
 use Rattle.export_trie.specs.declared.export.Export.{Export}
 use Rattle.export_trie.specs.declared.export.Target.{Target}
 use Rattle.export_trie.specs.declared.export.Target.TheVariants.{Offset, Absolute, Reexport}
 use Rattle.export_trie.specs.Nodes.{◌>>=◌, Terminal, Child, kind_of, is_reexport, is_resolver, are_bad_flags, value_of, number_in, number_at, text_at, target_at, terminal_at, head_at, edges_at, node_at, terminal_in, terminal_of}
 use Rattle.export_trie.specs.Order.{too_many, trie_break}
-use Rattle.export_trie.specs.Exports.{tree_exports, put_by_name, by_name, exports_of}
+use Rattle.export_trie.specs.Exports.{tree_exports, by_name, exports_of}
 use Rattle.export_trie.specs.Paths.{Member, HasExport}
 use Rattle.export_trie.specs.Planning.{HasNumber}
 use Rattle.export_trie.specs.Reading.{IsWalked}
 use Rattle.export_trie.specs.Writing.{IsWritable}
-use Rattle.export_trie.proofs.ExportLaws.{exports_are}
-use Rattle.export_trie.proofs.KeptLaws.{kept_list}
-use Rattle.export_trie.proofs.ListLaws.{comes_before}
+use Rattle.export_trie.proofs.ExportLaws.{exports_are, order_moves}
+use Rattle.export_trie.proofs.KeptLaws.{kept_list, number_at-small}
 use Rattle.export_trie.proofs.NodeLaws.{ok-value, bind_ok, guard_ok, pair-parts}
 use Rattle.export_trie.proofs.TreeLaws.{accepted_walk, few_exports}
-
--- ---- a list by names has the same exports
-
-put_moves : (e : Export) (es : List Export) → IsPermutation (e ∷ es) (put_by_name e es)
-put_moves e [] = IsPermutation-refl (e ∷ [])
-put_moves e (f ∷ fs) = elim (cases_Bool (comes_before f e)) [
-  | inl lt ↦
-      subst (λ (xs : List Export). IsPermutation (e ∷ f ∷ fs) xs) (sym (cond-true (comes_before f e) (f ∷ put_by_name e fs) (e ∷ (f ∷ fs)) lt))
-      (IsPermutation-trans (e ∷ f ∷ fs) (f ∷ e ∷ fs) (f ∷ put_by_name e fs) (IsPermutation-insert (f ∷ fs) 1 e) (IsPermutation-cons f (e ∷ fs) (put_by_name e fs) (put_moves e fs)))
-  | inr ge ↦ subst (λ (xs : List Export). IsPermutation (e ∷ f ∷ fs) xs) (sym (cond-false (comes_before f e) (f ∷ put_by_name e fs) (e ∷ (f ∷ fs)) ge)) (IsPermutation-refl (e ∷ f ∷ fs))
-]
-
-order_moves : (es : List Export) → IsPermutation es (by_name es)
-order_moves [] = IsPermutation-refl []
-order_moves (e ∷ es) =
-    IsPermutation-trans (e ∷ es) (e ∷ by_name es) (put_by_name e (by_name es)) (IsPermutation-cons e es (by_name es) (order_moves es)) (put_moves e (by_name es))
 
 walked : (trie : List ℕ) → trie_break trie ≡ None → IsWalked trie (tree_exports trie (length trie) [] 0)
 walked trie none =
@@ -56,16 +34,6 @@ exports_writable trie none =
 
 -- ---- numbers that are read
 
-number_fits : (bytes : List ℕ) (value : ℕ) (rest : List ℕ) → number_at bytes ≡ Ok (value, rest) → value < 2 ^ 64
-unfolding number_at
-number_fits bytes value rest read = go (uleb_at bytes 0) refl read
-  where
-    go : (r : Result (ℕ × ℕ) UlebFault) → uleb_at bytes 0 ≡ r → number_in bytes r ≡ Ok (value, rest) → value < 2 ^ 64
-    go (Err fault) is read = absurd (cc)
-    go (Ok p) is read =
-        let e = pair-parts p.0 value (drop p.1 bytes) rest (ok-value (p.0, drop p.1 bytes) (value, rest) read) in
-        omega (arith, e.0, uleb_at-fits bytes 0 p.0 p.1 is)
-
 value_fits : (flags value : ℕ) → value < 2 ^ 64 → HasNumber (value_of flags value)
 value_fits flags value fits = by_kind (nat_eq (kind_of flags) 2) fits
   where
@@ -77,7 +45,7 @@ target_fits : (flags : ℕ) (bytes : List ℕ) (target : Target) (rest : List �
 unfolding target_at
 target_fits flags bytes target rest read =
     let number = bind_ok (number_at bytes) (λ (n : ℕ × List ℕ). cond (is_reexport flags) (text_at n.1 >>= named n.0) (Ok (value_of flags n.0, n.1))) (target, rest) read in
-    let small = number_fits bytes number.0.0 number.0.1 number.1.0 in
+    let small = number_at-small bytes number.0.0 number.0.1 number.1.0 in
     elim (cases_Bool (is_reexport flags)) [
       | inl renamed ↦
           let text = bind_ok (text_at number.0.1) (named number.0.0) (target, rest) (sym (cond-true (is_reexport flags) (text_at number.0.1 >>= named number.0.0) (Ok (value_of flags number.0.0, number.0.1)) renamed) ∙ number.1.1) in
