@@ -74,4 +74,5 @@ def main():
     print(f"{function:#x} answers {ctypes.CFUNCTYPE(ctypes.c_int)(function)()}")
 
 
-main()
+if __name__ == "__main__":
+    main()
