@@ -6,10 +6,14 @@ ghost use Rattle.std.specs.Prelude.{◌≡◌, length, IfOk};
 
 mod data;
 mod symbols;
+mod system;
+mod usual;
 
 pub use data::{SHORT, WIDE, data_dylib};
 use std::alloc::{AllocError, Global};
 pub use symbols::symbols_dylib;
+pub use system::system_dylib;
+pub use usual::usual_dylib;
 
 /// Sets numbers of four bytes, with the low byte first, each at its place. One that doesn't lie inside is left
 /// out.
