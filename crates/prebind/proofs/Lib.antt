@@ -1,13 +1,17 @@
 pub mod DistinctLaws
+pub mod FrameLaws
+pub mod IndexLaws
 pub mod InsideLaws
 pub mod MetLaws
 pub mod NumberLaws
 pub mod OrderLaws
 pub mod OrderedWords
 pub mod PlaceLaws
+pub mod ProbeLaws
 pub mod ResolveLaws
 pub mod SameLaws
 pub mod SetLaws
 pub mod SoundLaws
+pub mod SpanLaws
 pub mod StepLaws
 pub mod WordLaws

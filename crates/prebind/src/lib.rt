@@ -3,21 +3,26 @@
 #![tactic(auto)]
 
 mod exports;
+mod index;
 mod lookups;
 mod met;
 mod place;
+mod probing;
 mod reading;
 mod rebased;
 mod resolution;
 mod resolved;
 mod segments;
 mod set;
+mod spans;
 #[cfg(test)]
 mod tests;
 mod words;
 
 pub use exports::check_exports;
+pub use index::{Frame, Indexed, index_set};
 pub use place::place_words;
+pub use probing::resolve_indexed;
 pub use reading::read_streams;
 pub use resolution::resolve;
 pub use resolved::{PlacedWord, Resolved, WordTarget};
