@@ -1,11 +1,16 @@
+pub mod BodyLaws
+pub mod BoundLaws
 pub mod DistinctLaws
 pub mod FrameLaws
+pub mod ImageLaws
 pub mod IndexLaws
 pub mod InsideLaws
+pub mod LinkeditLaws
 pub mod MetLaws
 pub mod NumberLaws
 pub mod OrderLaws
 pub mod OrderedWords
+pub mod OutlineLaws
 pub mod PlaceLaws
 pub mod ProbeLaws
 pub mod ResolveLaws

@@ -5,7 +5,8 @@ ghost use Rattle.prebind.specs.Framed as framed;
 use dsc_base::Span;
 use macho_image::Inside;
 
-fn covers(span: &Span, address: u64) -> bool
+/// Whether a span has an address.
+pub(crate) fn covers(span: &Span, address: u64) -> bool
     ensures { result ≡ framed.covers span.now address }
 {
     span.at <= address && address - span.at < span.len
