@@ -40,41 +40,22 @@ pub refused_in : (k : ℕ) (found : Option Site) (fault : Fault) → IsRefusal f
 refused_in k found (Broken site) is = ap (λ (o : Option Site). option_map (in_image k) o) is
 refused_in k found Memory is = tt
 
--- what is looked up is what the lists tell
-alike : {X : Type 0} (f g : ℕ → X) → ((a : ℕ) → f a ≡ g a) → f ≡ g
-alike f g same = λ j a. same a j
+-- the rebases of some lists, looked up
+pub looked_words : (k : ℕ) (ss : List Seg) (bound : ℕ → Bool) (pointer : ℕ → Option ℕ) (bs : List BoundWord) (rs : List Reference) (ls : List Location) → ((a : ℕ) → bound a ≡ is_bound bs a) → ((a : ℕ) → pointer a ≡ pointer_at rs a)
+    → rebased_words k ss bound pointer ls ≡ rebased_words k ss (is_bound bs) (pointer_at rs) ls
+looked_words k ss bound pointer bs rs ls told recorded = λ j. rebased_words k ss (λ a. told a j) (λ a. recorded a j) ls
 
--- the parts of an image's words, by what its streams spell
-pub record AreLookups (s : StreamLists) (bound : ℕ → Bool) (pointer : ℕ → Option ℕ) (ls : List Location) : Type 0 where
-  pub bound_is : bound ≡ is_bound s.binds
-  pub pointer_is : pointer ≡ pointer_at s.references
-  pub rebases_are : ls ≡ s.rebases
+pub looked_fault : (ss : List Seg) (bound : ℕ → Bool) (pointer : ℕ → Option ℕ) (bs : List BoundWord) (rs : List Reference) (ls : List Location) → ((a : ℕ) → bound a ≡ is_bound bs a) → ((a : ℕ) → pointer a ≡ pointer_at rs a)
+    → rebase_fault ss bound pointer ls ≡ rebase_fault ss (is_bound bs) (pointer_at rs) ls
+looked_fault ss bound pointer bs rs ls told recorded = λ j. rebase_fault ss (λ a. told a j) (λ a. recorded a j) ls
 
-pub lookups_are : (s : StreamLists) (bound : ℕ → Bool) (pointer : ℕ → Option ℕ) (bs : List BoundWord) (rs : List Reference) (ls : List Location) → ((a : ℕ) → bound a ≡ is_bound bs a) → ((a : ℕ) → pointer a ≡ pointer_at rs a) → bs ≡ s.binds → rs ≡ s.references → ls ≡ s.rebases → AreLookups s bound pointer ls
-lookups_are s bound pointer bs rs ls told recorded binds references rebases = record {
-  bound_is = alike bound (is_bound bs) told ∙ ap (λ (l : List BoundWord). is_bound l) binds;
-  pointer_is = alike pointer (pointer_at rs) recorded ∙ ap (λ (l : List Reference). pointer_at l) references;
-  rebases_are = rebases;
-}
-
-pub ordered_all : (set : ImageSet) (k : ℕ) (ss : List Seg) (s : StreamLists) (bound : ℕ → Bool) (pointer : ℕ → Option ℕ) (ls : List Location) (bs : List BoundWord) (first both sorted : List PlacedWord) → AreLookups s bound pointer ls → bs ≡ s.binds
-    → first ≡ map (placed_bind set k) bs → both ≡ first ++ rebased_words k ss bound pointer ls → AreOrdered both sorted → AreOrdered (all_pointers set k ss s) sorted
-ordered_all set k ss s bound pointer ls bs first both sorted looked binds made joined ordered =
-    let front : first ≡ map (placed_bind set k) s.binds = made ∙ ap (λ (l : List BoundWord). map (placed_bind set k) l) binds in
-    let back : rebased_words k ss bound pointer ls ≡ rebased_words k ss (is_bound s.binds) (pointer_at s.references) s.rebases = λ j. rebased_words k ss (looked.bound_is j) (looked.pointer_is j) (looked.rebases_are j) in
-    subst (λ (l : List PlacedWord). AreOrdered l sorted) (joined ∙ ap₂ (λ (x y : List PlacedWord). x ++ y) front back) ordered
-
-faults_of : (set : ImageSet) (k : ℕ) (ss : List Seg) (s : StreamLists) (bound : ℕ → Bool) (pointer : ℕ → Option ℕ) (ls : List Location) (bs : List BoundWord) → AreLookups s bound pointer ls → bs ≡ s.binds → bind_fault_from set k 0 bs ≡ None → rebase_fault ss bound pointer ls ≡ word_fault set k ss s
-faults_of set k ss s bound pointer ls bs looked binds none =
-    let unbroken : bind_fault_from set k 0 s.binds ≡ None = sym (ap (λ (l : List BoundWord). bind_fault_from set k 0 l) binds) ∙ none in
-    let same : rebase_fault ss bound pointer ls ≡ rebase_fault ss (is_bound s.binds) (pointer_at s.references) s.rebases = λ j. rebase_fault ss (looked.bound_is j) (looked.pointer_is j) (looked.rebases_are j) in
-    same ∙ sym (ap (λ (o : Option Site). option_or o (rebase_fault ss (is_bound s.binds) (pointer_at s.references) s.rebases)) unbroken)
-
-pub none_of : (set : ImageSet) (k : ℕ) (ss : List Seg) (s : StreamLists) (bound : ℕ → Bool) (pointer : ℕ → Option ℕ) (ls : List Location) (bs : List BoundWord) → AreLookups s bound pointer ls → bs ≡ s.binds → bind_fault_from set k 0 bs ≡ None → rebase_fault ss bound pointer ls ≡ None → word_fault set k ss s ≡ None
-none_of set k ss s bound pointer ls bs looked binds none accepted = sym (faults_of set k ss s bound pointer ls bs looked binds none) ∙ accepted
-
-pub refused_of : (set : ImageSet) (k : ℕ) (ss : List Seg) (s : StreamLists) (bound : ℕ → Bool) (pointer : ℕ → Option ℕ) (ls : List Location) (bs : List BoundWord) (fault : Fault) → AreLookups s bound pointer ls → bs ≡ s.binds → bind_fault_from set k 0 bs ≡ None → IsRefusal (rebase_fault ss bound pointer ls) fault → IsRefusal (word_fault set k ss s) fault
-refused_of set k ss s bound pointer ls bs fault looked binds none refused = subst (λ (o : Option Site). IsRefusal o fault) (faults_of set k ss s bound pointer ls bs looked binds none) refused
+-- the rules of rebases are those of all words where binds break none
+pub faults_are : (set : ImageSet) (k : ℕ) (ss whole : List Seg) (s : StreamLists) (placed bs : List BoundWord) (rs : List Reference) (ls : List Location) → whole ≡ ss → placed ≡ s.binds → bs ≡ s.binds → rs ≡ s.references → ls ≡ s.rebases → bind_fault_from set k 0 placed ≡ None
+    → rebase_fault whole (is_bound bs) (pointer_at rs) ls ≡ word_fault set k ss s
+faults_are set k ss whole s placed bs rs ls segments_are placed_are binds_are references_are rebases_are none =
+    let unbroken : bind_fault_from set k 0 s.binds ≡ None = sym (ap (λ (l : List BoundWord). bind_fault_from set k 0 l) placed_are) ∙ none in
+    (λ j. rebase_fault (segments_are j) (is_bound (binds_are j)) (pointer_at (references_are j)) (rebases_are j))
+    ∙ sym (ap (λ (o : Option Site). option_or o (rebase_fault ss (is_bound s.binds) (pointer_at s.references) s.rebases)) unbroken)
 
 pub placed_here : (set : ImageSet) (k : ℕ) (image : Img) (s : StreamLists) (words : List PlacedWord) → IsSoundSet set → k < length set.images → image ≡ get_or set.images k image → s ≡ get_or set.streams k s → AreOrdered (all_pointers set k image.segments s) words → ArePlaced (pointers_of set k) words
 placed_here set k image s words sound lt image_is streams_is ordered =

@@ -1,7 +1,11 @@
 pub mod Agree
+pub mod Bodies
+pub mod Framed
+pub mod Indexed
 pub mod Met
 pub mod Numbers
 pub mod Places
+pub mod Probes
 pub mod Resolves
 pub mod Sets
 pub mod Steps

@@ -3,21 +3,29 @@
 #![tactic(auto)]
 
 mod exports;
+mod index;
 mod lookups;
 mod met;
 mod place;
+mod place_indexed;
+mod probing;
 mod reading;
 mod rebased;
 mod resolution;
 mod resolved;
+mod segment_lookup;
 mod segments;
 mod set;
+mod spans;
 #[cfg(test)]
 mod tests;
 mod words;
 
 pub use exports::check_exports;
+pub use index::{Frame, Indexed, index_set};
 pub use place::place_words;
+pub use place_indexed::place_words_indexed;
+pub use probing::resolve_indexed;
 pub use reading::read_streams;
 pub use resolution::resolve;
 pub use resolved::{PlacedWord, Resolved, WordTarget};

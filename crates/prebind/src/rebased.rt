@@ -3,79 +3,52 @@ ghost use Rattle.std.specs.Prelude.{◌≡◌, ◌∷◌, ◌++◌, [], ℕ, not
 ghost use Rattle.indexmap.specs.IndexMap.{get};
 ghost use Rattle.indexmap.specs.IndexSet.{contains};
 ghost use Rattle.dsc_base.specs.Refusals.{broken, first_break, Refuses};
-ghost use Rattle.macho_image.specs.Index.{Indexes};
-ghost use Rattle.macho_image.specs.Segments.{start_of, value_of, inside};
+ghost use Rattle.macho_image.specs.Segments.{value_of, inside};
 ghost use Rattle.prebind.specs.WordRules as rules;
 ghost use Rattle.prebind.specs.Targets as targets;
 
 use crate::WordTarget;
-use crate::exports::is_linkedit_at;
+use crate::segment_lookup::SegmentLookup;
 use dsc_base::{Fault, Rule, Site};
 use indexmap::{IndexMap, IndexSet};
-use macho_image::{Location, Segment, SegmentIndex, value_at};
+use macho_image::Location;
 
-fn points_into_linkedit(
-    segments: &[Segment<'_>],
-    index: &SegmentIndex,
-    value: u64,
-    recorded: Option<u32>,
-) -> bool
-    requires { Indexes segments.now index.now }
-    ensures { result ≡ rules.breaks_135 segments.now value recorded }
+fn points_into_linkedit<S: SegmentLookup>(segments: &S, value: u64, recorded: Option<u32>) -> bool
+    ensures { result ≡ rules.breaks_135 (S.all segments.now) value recorded }
 {
     if recorded.is_some() {
         return false;
     }
-    match index.find(value) {
-        Some(place) => is_linkedit_at(segments, place.segment),
+    match segments.find(value) {
+        Some(place) => segments.is_linkedit_at(place.segment),
         None => false,
     }
 }
 
-fn points_nowhere(
-    segments: &[Segment<'_>],
-    index: &SegmentIndex,
-    value: u64,
-    recorded: Option<u32>,
-) -> bool
-    requires { Indexes segments.now index.now }
-    ensures { result ≡ rules.breaks_136 segments.now value recorded }
+fn points_nowhere<S: SegmentLookup>(segments: &S, value: u64, recorded: Option<u32>) -> bool
+    ensures { result ≡ rules.breaks_136 (S.all segments.now) value recorded }
 {
-    let _ = segments;
     if recorded.is_some() {
         return false;
     }
-    index.find(value).is_none()
+    segments.find(value).is_none()
 }
 
-fn points_out_of_range(segments: &[Segment<'_>], value: u64, recorded: Option<u32>) -> bool
-    ensures { result ≡ rules.breaks_137 segments.now value recorded }
+fn points_out_of_range<S: SegmentLookup>(segments: &S, value: u64, recorded: Option<u32>) -> bool
+    ensures { result ≡ rules.breaks_137 (S.all segments.now) value recorded }
 {
     match recorded {
-        Some(number) => match segments.get(number as usize) {
-            Some(segment) => value < segment.vmaddr || value - segment.vmaddr > segment.vmsize,
-            None => true,
-        },
+        Some(number) => segments.is_out_of(number, value),
         None => false,
-    }
-}
-
-fn start_of(segments: &[Segment<'_>], number: u32) -> u64
-    ensures { result ≡ start_of (slice_get segments.now number) }
-{
-    match segments.get(number as usize) {
-        Some(segment) => segment.vmaddr,
-        None => 0,
     }
 }
 
 // The place of a value in the segment that contains it, unless that is `__LINKEDIT`.
-fn value_place(segments: &[Segment<'_>], index: &SegmentIndex, image: u32, value: u64) -> WordTarget
-    requires { Indexes segments.now index.now }
-    ensures { result ≡ targets.value_place image segments.now value (inside segments.now value) }
+fn value_place<S: SegmentLookup>(segments: &S, image: u32, value: u64) -> WordTarget
+    ensures { result ≡ targets.value_place image (S.all segments.now) value (inside (S.all segments.now) value) }
 {
-    match index.find(value) {
-        Some(place) if !is_linkedit_at(segments, place.segment) => WordTarget::Place {
+    match segments.find(value) {
+        Some(place) if !segments.is_linkedit_at(place.segment) => WordTarget::Place {
             image,
             segment: place.segment,
             distance: place.distance,
@@ -86,23 +59,21 @@ fn value_place(segments: &[Segment<'_>], index: &SegmentIndex, image: u32, value
 
 /// Where a rebase of image number `image` leads that has this value.
 #[tactic(auto, unfolding(macho_image::specs::Places::above))]
-pub(crate) fn target_of(
-    segments: &[Segment<'_>],
-    index: &SegmentIndex,
+pub(crate) fn target_of<S: SegmentLookup>(
+    segments: &S,
     image: u32,
     value: u64,
     recorded: Option<u32>,
 ) -> WordTarget
-    requires { Indexes segments.now index.now }
-    ensures { result ≡ targets.rebase_target image segments.now value recorded }
+    ensures { result ≡ targets.rebase_target image (S.all segments.now) value recorded }
 {
     match recorded {
         Some(segment) => WordTarget::Place {
             image,
             segment,
-            distance: value.wrapping_sub(start_of(segments, segment)),
+            distance: value.wrapping_sub(segments.start_of(segment)),
         },
-        None => value_place(segments, index, image, value),
+        None => value_place(segments, image, value),
     }
 }
 
@@ -118,59 +89,45 @@ pub(crate) fn recorded_at(pointers: &IndexMap<u64, u32>, word: &Location) -> Opt
     pointers.get(&word.address).copied()
 }
 
-fn first_into_linkedit(
-    segments: &[Segment<'_>],
-    index: &SegmentIndex,
+fn first_into_linkedit<S: SegmentLookup>(
+    segments: &S,
     bound: &IndexSet<u64>,
     pointers: &IndexMap<u64, u32>,
     words: &[Location],
 ) -> Option<usize>
-    requires { Indexes segments.now index.now }
-    ensures { result ≡ rules.first_rebase rules.breaks_135 segments.now (contains nat_eq bound.now) (get nat_eq pointers.now) words.now }
+    ensures { result ≡ rules.first_rebase rules.breaks_135 (S.all segments.now) (contains nat_eq bound.now) (get nat_eq pointers.now) words.now }
 {
     words.iter().position(|l| {
         is_free(bound, l)
-            && points_into_linkedit(
-                segments,
-                index,
-                value_at(segments, l),
-                recorded_at(pointers, l),
-            )
+            && points_into_linkedit(segments, segments.value_at(l), recorded_at(pointers, l))
     })
 }
 
-fn first_nowhere(
-    segments: &[Segment<'_>],
-    index: &SegmentIndex,
+fn first_nowhere<S: SegmentLookup>(
+    segments: &S,
     bound: &IndexSet<u64>,
     pointers: &IndexMap<u64, u32>,
     words: &[Location],
 ) -> Option<usize>
-    requires { Indexes segments.now index.now }
-    ensures { result ≡ rules.first_rebase rules.breaks_136 segments.now (contains nat_eq bound.now) (get nat_eq pointers.now) words.now }
+    ensures { result ≡ rules.first_rebase rules.breaks_136 (S.all segments.now) (contains nat_eq bound.now) (get nat_eq pointers.now) words.now }
 {
     words.iter().position(|l| {
         is_free(bound, l)
-            && points_nowhere(
-                segments,
-                index,
-                value_at(segments, l),
-                recorded_at(pointers, l),
-            )
+            && points_nowhere(segments, segments.value_at(l), recorded_at(pointers, l))
     })
 }
 
-fn first_out_of_range(
-    segments: &[Segment<'_>],
+fn first_out_of_range<S: SegmentLookup>(
+    segments: &S,
     bound: &IndexSet<u64>,
     pointers: &IndexMap<u64, u32>,
     words: &[Location],
 ) -> Option<usize>
-    ensures { result ≡ rules.first_rebase rules.breaks_137 segments.now (contains nat_eq bound.now) (get nat_eq pointers.now) words.now }
+    ensures { result ≡ rules.first_rebase rules.breaks_137 (S.all segments.now) (contains nat_eq bound.now) (get nat_eq pointers.now) words.now }
 {
     words.iter().position(|l| {
         is_free(bound, l)
-            && points_out_of_range(segments, value_at(segments, l), recorded_at(pointers, l))
+            && points_out_of_range(segments, segments.value_at(l), recorded_at(pointers, l))
     })
 }
 
@@ -185,20 +142,18 @@ fn refused(rule: Rule, index: usize) -> Fault
 
 /// Refuses the first of the rules that rebases break: all that lead into `__LINKEDIT` go before those that
 /// lead into no segment, and these before recorded ones that leave their segment.
-pub(crate) fn check_rebases(
-    segments: &[Segment<'_>],
-    index: &SegmentIndex,
+pub(crate) fn check_rebases<S: SegmentLookup>(
+    segments: &S,
     bound: &IndexSet<u64>,
     pointers: &IndexMap<u64, u32>,
     words: &[Location],
 ) -> Result<(), Fault>
-    requires { Indexes segments.now index.now }
-    ensures { Refuses (rules.rebase_fault segments.now (contains nat_eq bound.now) (get nat_eq pointers.now) words.now) result }
+    ensures { Refuses (rules.rebase_fault (S.all segments.now) (contains nat_eq bound.now) (get nat_eq pointers.now) words.now) result }
 {
-    if let Some(at) = first_into_linkedit(segments, index, bound, pointers, words) {
+    if let Some(at) = first_into_linkedit(segments, bound, pointers, words) {
         return Err(refused(Rule::PointsIntoLinkedit, at));
     }
-    if let Some(at) = first_nowhere(segments, index, bound, pointers, words) {
+    if let Some(at) = first_nowhere(segments, bound, pointers, words) {
         return Err(refused(Rule::RebaseOutside, at));
     }
     match first_out_of_range(segments, bound, pointers, words) {

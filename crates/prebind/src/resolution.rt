@@ -20,7 +20,7 @@ use macho_image::{Image, Segment, header_address};
 use std::alloc::Global;
 
 // What an ordinal and a name lead to at once: an outcome, or the entry of an image that re-exports the name.
-enum Step<'a> {
+pub(crate) enum Step<'a> {
     Ends(Resolved),
     Reexports {
         image: u32,
@@ -90,7 +90,7 @@ fn target_step<'a>(segments: &[Segment<'_>], number: u32, found: Found<'a>) -> S
 }
 
 // Does nothing; its contract tells what is true of each slice of bytes.
-fn are_bytes(bytes: &[u8])
+pub(crate) fn are_bytes(bytes: &[u8])
     ensures { (k : ℕ) → slice_index bytes.now k < 256 }
 {
     let _ = bytes;
@@ -135,7 +135,7 @@ fn next_step<'s>(set: &Set<'s, '_>, image: u32, ordinal: u64, name: &[u8]) -> St
 }
 
 // The name that a re-export goes on with.
-fn next_name<'n>(name: &'n [u8], own: &'n [u8]) -> &'n [u8]
+pub(crate) fn next_name<'n>(name: &'n [u8], own: &'n [u8]) -> &'n [u8]
     ensures { result.now ≡ spec.next_name name.entry.now own.entry.now }
 {
     if own.is_empty() { name } else { own }

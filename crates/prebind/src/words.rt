@@ -5,7 +5,6 @@ ghost use Rattle.indexmap.specs.IndexMap.{get};
 ghost use Rattle.indexmap.specs.IndexSet.{contains};
 ghost use Rattle.dsc_base.specs.Refusals.{Refuses};
 ghost use Rattle.macho_image.specs.Index.{Indexes};
-ghost use Rattle.macho_image.specs.Segments.{value_of};
 ghost use Rattle.prebind.specs.Sets.{IsSoundSet};
 ghost use Rattle.prebind.specs.Steps.{set_of};
 ghost use Rattle.prebind.specs.Words as spec;
@@ -15,11 +14,13 @@ ghost use Rattle.prebind.specs.Targets as targets;
 use crate::lookups::{bound_addresses, recorded_pointers};
 use crate::rebased::{check_rebases, is_free, recorded_at, target_of};
 use crate::resolution::resolve;
+use crate::segment_lookup::{SegmentLookup, Whole};
 use crate::{ImageStreams, PlacedWord, Resolved, Set, WordTarget};
 use bind_ops::Bind;
 use dsc_base::{Fault, NoMemory, Rule, Site};
 use indexmap::{IndexMap, IndexSet};
-use macho_image::{Location, Segment, SegmentIndex, value_at};
+use macho_image::{Location, Segment, SegmentIndex};
+use split_info::Reference;
 use std::alloc::Global;
 
 // The rule that a bind breaks whose symbol has this outcome.
@@ -64,6 +65,27 @@ fn bound_target(addend: i64, outcome: Resolved) -> WordTarget
     }
 }
 
+// The word that a bind gives whose symbol has this outcome.
+pub(crate) fn place_resolved(
+    index: usize,
+    bind: &Bind<'_>,
+    outcome: Resolved,
+) -> Result<PlacedWord, Fault>
+    ensures found { IfOk result (λ w. w ≡ record { at = bind.now.at; target = targets.bound_target bind.now.addend outcome }) }
+    ensures cause { Refuses (option_map (λ rule. record { rule = rule; at = index }) (rules.outcome_fault bind.now.weak outcome)) result }
+{
+    match outcome_fault(bind.weak, outcome) {
+        Some(rule) => Err(Fault::Broken(Site {
+            rule,
+            at: index as u64,
+        })),
+        None => Ok(PlacedWord {
+            at: bind.at,
+            target: bound_target(bind.addend, outcome),
+        }),
+    }
+}
+
 fn place_bind(
     alloc: Global,
     set: &Set<'_, '_>,
@@ -77,16 +99,7 @@ fn place_bind(
     ensures cause { Refuses (rules.bind_fault (set_of set.now) image index bind.now) result }
 {
     let outcome = resolve(alloc, set, image, bind.ordinal, bind.name)?;
-    match outcome_fault(bind.weak, outcome) {
-        Some(rule) => Err(Fault::Broken(Site {
-            rule,
-            at: index as u64,
-        })),
-        None => Ok(PlacedWord {
-            at: bind.at,
-            target: bound_target(bind.addend, outcome),
-        }),
-    }
+    place_resolved(index, bind, outcome)
 }
 
 // The bound words, or the first bind that breaks a rule.
@@ -110,22 +123,20 @@ fn place_binds(
 }
 
 // The rebases that aren't bound, behind the words that are placed before them.
-fn place_rebases(
-    segments: &[Segment<'_>],
-    index: &SegmentIndex,
+fn place_rebases<S: SegmentLookup>(
+    segments: &S,
     bound: &IndexSet<u64>,
     pointers: &IndexMap<u64, u32>,
     image: u32,
     rebases: &[Location],
     words: &mut Vec<PlacedWord>,
 ) -> Result<(), NoMemory>
-    requires { Indexes segments.now index.now }
-    ensures { OnOk result (words.new.items ≡ words.old.items ++ map (λ l. record { at = l; target = targets.rebase_target image segments.now (value_of segments.now l) (get nat_eq pointers.now l.address) }) (filter (λ l. not (contains nat_eq bound.now l.address)) rebases.now)) }
+    ensures { OnOk result (words.new.items ≡ words.old.items ++ spec.rebased_words image (S.all segments.now) (contains nat_eq bound.now) (get nat_eq pointers.now) rebases.now) }
 {
     for word in rebases {
         if is_free(bound, word) {
-            let value = value_at(segments, word);
-            let target = target_of(segments, index, image, value, recorded_at(pointers, word));
+            let value = segments.value_at(word);
+            let target = target_of(segments, image, value, recorded_at(pointers, word));
             words.push(PlacedWord { at: *word, target })?;
         }
     }
@@ -138,6 +149,32 @@ fn sort_words(words: &mut Vec<PlacedWord>) -> Result<(), NoMemory>
 {
     words.sort_by_key(|w| w.at.address)?;
     Ok(())
+}
+
+/// Words that are bound, and behind them the rebases that aren't, in the order of their addresses; or the
+/// first rule that these rebases break.
+pub(crate) fn with_rebases<S: SegmentLookup>(
+    alloc: Global,
+    segments: &S,
+    image: u32,
+    binds: &[Bind<'_>],
+    references: &[Reference],
+    rebases: &[Location],
+    placed: Vec<PlacedWord>,
+) -> Result<Vec<PlacedWord>, Fault>
+    ensures found { IfOk result (λ v. spec.AreOrdered (placed.items ++ spec.rebased_words image (S.all segments.now) (spec.is_bound binds.now) (targets.pointer_at references.now) rebases.now) v.items) }
+    ensures cause { Refuses (rules.rebase_fault (S.all segments.now) (spec.is_bound binds.now) (targets.pointer_at references.now) rebases.now) result }
+{
+    let mut words = placed;
+    let bound = bound_addresses(alloc, binds)?;
+    let pointers = recorded_pointers(alloc, references)?;
+    match check_rebases(segments, &bound, &pointers, rebases) {
+        Ok(()) => {}
+        Err(fault) => return Err(fault),
+    }
+    place_rebases(segments, &bound, &pointers, image, rebases, &mut words)?;
+    sort_words(&mut words)?;
+    Ok(words)
 }
 
 // The words of image number `image`, by its segments and what its streams spell.
@@ -155,22 +192,18 @@ pub(crate) fn words_in(
     ensures found { IfOk result (λ v. spec.AreOrdered (spec.all_pointers (set_of set.now) image segments.now streams.now) v.items) }
     ensures cause { Refuses (rules.word_fault (set_of set.now) image segments.now streams.now) result }
 {
-    let mut words = place_binds(alloc, set, image, &streams.binds)?;
-    let bound = bound_addresses(alloc, &streams.binds)?;
-    let pointers = recorded_pointers(alloc, &streams.references)?;
-    match check_rebases(segments, index, &bound, &pointers, &streams.rebases) {
-        Ok(()) => {}
-        Err(fault) => return Err(fault),
-    }
-    place_rebases(
-        segments,
-        index,
-        &bound,
-        &pointers,
+    let placed = place_binds(alloc, set, image, &streams.binds)?;
+    let lookup = Whole::new(segments, index);
+    match with_rebases(
+        alloc,
+        &lookup,
         image,
+        &streams.binds,
+        &streams.references,
         &streams.rebases,
-        &mut words,
-    )?;
-    sort_words(&mut words)?;
-    Ok(words)
+        placed,
+    ) {
+        Ok(words) => Ok(words),
+        Err(fault) => Err(fault),
+    }
 }

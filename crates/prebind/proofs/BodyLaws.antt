@@ -1,0 +1,77 @@
+-- The segments of an image with `__LINKEDIT` by its addresses alone, looked up.
+use Rattle.std.proofs.Common.{◌≡◌, ◌<◌, ◌≤◌, ◌+◌, ◌-◌, ℕ, zero, suc, Bool, true, false, List, [], ◌∷◌, ◌++◌, length, refl, sym, ap, ◌∙◌, arith, if◌then◌else◌, Option, Some, None}
+use Rattle.std.specs.Prelude.{slice_get}
+use Rattle.std.specs.Option.{option_or}
+use Rattle.dsc_base.specs.declared.fault.Span.{Span}
+use Rattle.macho_image.specs.Records.{Seg}
+use Rattle.macho_image.specs.declared.places.segment_index.Inside.{Inside}
+use Rattle.macho_image.specs.declared.place.Location.{Location}
+use Rattle.macho_image.specs.Segments.{contains, inside_from, inside, number_of, number_within, value_of}
+use Rattle.macho_image.proofs.NumberLaws.{number_past}
+use Rattle.prebind.specs.Places.{is_linkedit_at}
+use Rattle.prebind.specs.Framed.{covers}
+use Rattle.prebind.specs.Bodies.{linkedit_at, whole_of}
+
+-- an address is in the segments before `__LINKEDIT`, or in that
+abbrev behind : ℕ → Seg → ℕ → Option Inside
+behind g s x = if contains s x then Some (record { segment = g; distance = x - s.vmaddr }) else None
+
+or_else : (b : Bool) (i : Inside) (o p : Option Inside) → (if b then Some i else option_or o p) ≡ option_or (if b then Some i else o) p
+or_else true i o p = refl
+or_else false i o p = refl
+
+inside_from-last : (g : ℕ) (ss : List Seg) (s : Seg) (x : ℕ) → inside_from g (ss ++ s ∷ []) x ≡ option_or (inside_from g ss x) (behind (g + length ss) s x)
+inside_from-last g [] s x = ap (λ (n : ℕ). behind n s x) (let e : g ≡ g + 0 = omega arith in e)
+inside_from-last g (t ∷ ts) s x =
+    ap (λ (o : Option Inside). if contains t x then Some (record { segment = g; distance = x - t.vmaddr }) else o) (inside_from-last (g + 1) ts s x)
+    ∙ (or_else (contains t x) (record { segment = g; distance = x - t.vmaddr }) (inside_from (g + 1) ts x) (behind ((g + 1) + length ts) s x)
+    ∙ ap (λ (n : ℕ). option_or (if contains t x then Some (record { segment = g; distance = x - t.vmaddr }) else inside_from (g + 1) ts x) (behind n s x)) (let e : (g + 1) + length ts ≡ g + suc (length ts) = omega arith in e))
+
+inside-last : (ss : List Seg) (s : Seg) (x : ℕ) → inside (ss ++ s ∷ []) x ≡ option_or (inside ss x) (behind (length ss) s x)
+unfolding inside
+inside-last ss s x = inside_from-last 0 ss s x ∙ ap (λ (n : ℕ). option_or (inside_from 0 ss x) (behind n s x)) (let e : 0 + length ss ≡ length ss = omega arith in e)
+
+pub inside_body : (ss : List Seg) (linkedit : Span) (x : ℕ) (p : Inside) → Some p ≡ inside ss x → Some p ≡ inside (whole_of ss linkedit) x
+inside_body ss linkedit x p is = sym (inside-last ss (linkedit_at linkedit) x ∙ ap (λ (o : Option Inside). option_or o (behind (length ss) (linkedit_at linkedit) x)) (sym is))
+
+pub inside_linkedit : (ss : List Seg) (linkedit : Span) (x : ℕ) → None ≡ inside ss x → covers linkedit x ≡ true → Some (record { segment = length ss; distance = x - linkedit.at }) ≡ inside (whole_of ss linkedit) x
+inside_linkedit ss linkedit x none has =
+    sym (inside-last ss (linkedit_at linkedit) x
+    ∙ (ap (λ (o : Option Inside). option_or o (behind (length ss) (linkedit_at linkedit) x)) (sym none)
+    ∙ ap (λ (b : Bool). if b then Some (record { segment = length ss; distance = x - linkedit.at }) else None) has))
+
+pub inside_neither : (ss : List Seg) (linkedit : Span) (x : ℕ) → None ≡ inside ss x → covers linkedit x ≡ false → None ≡ inside (whole_of ss linkedit) x
+inside_neither ss linkedit x none lacks =
+    sym (inside-last ss (linkedit_at linkedit) x
+    ∙ (ap (λ (o : Option Inside). option_or o (behind (length ss) (linkedit_at linkedit) x)) (sym none)
+    ∙ ap (λ (b : Bool). if b then Some (record { segment = length ss; distance = x - linkedit.at }) else None) lacks))
+
+-- a segment by its number
+pub get_last : {X : Type 0} (ss : List X) (s : X) (g : ℕ) → g ≡ length ss → slice_get (ss ++ s ∷ []) g ≡ Some s
+get_last [] s zero is = refl
+get_last [] s (suc g) is = absurd (omega (arith, is))
+get_last (t ∷ ts) s zero is = absurd (omega (arith, is))
+get_last (t ∷ ts) s (suc g) is = get_last ts s g (omega (arith, is))
+
+pub get_other : {X : Type 0} (ss : List X) (s : X) (g : ℕ) → (g ≡ length ss → ⊥) → slice_get (ss ++ s ∷ []) g ≡ slice_get ss g
+get_other [] s zero other = absurd (other refl)
+get_other [] s (suc g) other = refl
+get_other (t ∷ ts) s zero other = refl
+get_other (t ∷ ts) s (suc g) other = get_other ts s g (λ is. other (ap suc is))
+
+pub named_in_body : (ss : List Seg) (linkedit : Span) (g : ℕ) → is_linkedit_at (slice_get (whole_of ss linkedit) g) ≡ is_linkedit_at (slice_get ss g)
+named_in_body [] linkedit zero = refl
+named_in_body [] linkedit (suc g) = refl
+named_in_body (s ∷ ss) linkedit zero = refl
+named_in_body (s ∷ ss) linkedit (suc g) = named_in_body ss linkedit g
+
+number_in_body : (ss : List Seg) (linkedit : Span) (g address : ℕ) → number_within 8 (slice_get (whole_of ss linkedit) g) address ≡ number_within 8 (slice_get ss g) address
+unfolding number_of
+number_in_body [] linkedit zero address = number_past [] (address - linkedit.at) (omega arith)
+number_in_body [] linkedit (suc g) address = refl
+number_in_body (s ∷ ss) linkedit zero address = refl
+number_in_body (s ∷ ss) linkedit (suc g) address = number_in_body ss linkedit g address
+
+pub value_in_body : (ss : List Seg) (linkedit : Span) (l : Location) → value_of (whole_of ss linkedit) l ≡ value_of ss l
+unfolding value_of
+value_in_body ss linkedit l = number_in_body ss linkedit l.segment l.address
