@@ -4,7 +4,7 @@ ghost use Rattle.cache_build.specs.Breaks.{set_break};
 ghost use Rattle.cache_header.specs.Reading.{span};
 ghost use Rattle.load_model.specs.Phases.{contents};
 ghost use Rattle.cache_build.specs.Built.{built};
-ghost use Rattle.cache_build.specs.Filling.{segments_of, filled, CanFill, HasRooms};
+ghost use Rattle.cache_build.specs.Filling.{ArePartsOf};
 ghost use Rattle.cache_build.specs.Ready.{IsReady};
 ghost use Rattle.dsc_base.specs.Refusals.{IsSetRefusal, RefusesSet};
 ghost use Rattle.cache_build.specs.Always.{CorrespondsAlways};
@@ -65,9 +65,7 @@ fn make_parts<'a>(
     requires few { length files.now ≤ 4096 }
     requires bytes { All (λ f. All (λ b. b < 256) f) (contents files.now) }
     requires bits { (1 ≤ bits) × (bits ≤ 16) }
-    ensures cache { IfOk result (λ r. filled r.0 r.2 r.1.head.items (segments_of r.1.plans.items r.1.info r.1.words.items) r.1.slide_info.items r.1.linkedit.items ≡ built bits (contents files.entry.now)) }
-    ensures rooms { IfOk result (λ r. HasRooms r.0 r.2 r.1.head.items r.1.slide_info.items r.1.linkedit.items) }
-    ensures fills { IfOk result (λ r. CanFill r.0 r.1.plans.items r.1.info r.1.words.items) }
+    ensures parts { IfOk result (λ r. ArePartsOf (built bits (contents files.entry.now)) r.0 r.2 r.1) }
     ensures cause { RefusesSet (set_break bits (contents files.entry.now)) result }
 {
     let (read, layout) = read_set(alloc, files)?;

@@ -10,7 +10,7 @@ returns-in_err-layout-clause-cause g c =
     handed_set (set_break c.args.options.now.delta_bits (contents c.args.files.now)) c.from_residual.result c.in_err-layout.field-0.0 c.from_residual.ensures.1 c.in_err-layout.ensures.cause
 
 pub returns-clause-cache : goal.returns-clause-cache
-returns-clause-cache g c = c.in_ok-cache.ensures ∙ c.in_ok-layout.ensures.cache
+returns-clause-cache g c = c.in_ok-cache.ensures ∙ c.in_ok-layout.ensures.parts.is
 
 pub returns-in_err-layout-clause-corresponds : goal.returns-in_err-layout-clause-corresponds
 returns-in_err-layout-clause-corresponds g c = files_correspond c.args.options.now.delta_bits c.args.files.now c.requires.bits c.requires.few c.files_are_bytes.ensures
