@@ -5,7 +5,7 @@ use Rattle.std.specs.List.{All}
 use Rattle.std.specs.Option.{option_or}
 use Rattle.std.proofs.lemmas.List.{length-map, get_or-map, map-append}
 use Rattle.std.proofs.lemmas.List.Elements.{All-weaker}
-use Rattle.std.proofs.lemmas.Option.{slice_get_cases, get_or_from_slice_get, slice_get-get_or}
+use Rattle.std.proofs.lemmas.Option.{slice_get_cases, get_or_from_slice_get, slice_get_read}
 use Rattle.dsc_base.specs.declared.fault.Site.{Site}
 use Rattle.dsc_base.specs.declared.fault.Span.{Span}
 use Rattle.macho_image.specs.Records.{Seg, Img}
@@ -20,7 +20,7 @@ use Rattle.bind_ops.specs.Records.{BoundWord}
 use Rattle.split_info.specs.declared.reference.Reference.{Reference}
 use Rattle.dep_closure.specs.Linked.{Linked}
 use Rattle.prebind.specs.declared.resolved.PlacedWord.{PlacedWord}
-use Rattle.prebind.specs.Sets.{StreamLists, ImageSet, AreStreamsOf}
+use Rattle.prebind.specs.Sets.{StreamLists, ImageSet, IsSoundSet}
 use Rattle.prebind.specs.Targets.{pointer_at}
 use Rattle.prebind.specs.Words.{is_bound, placed_bind, rebased_words, streams_in, streams_at, pointers_of, AreOrdered}
 use Rattle.prebind.specs.WordRules.{bind_fault_from, rebase_fault, word_fault}
@@ -163,3 +163,16 @@ words_fault set links indexed k segments rebases binds references frame span who
     ap (λ (ss : List Seg). rebase_fault ss (is_bound binds) (pointer_at references) rebases) whole_is
     ∙ (sym (ap (λ (o : Option Site). option_or o (rebase_fault (whole_of segments span) (is_bound binds) (pointer_at references) rebases)) none)
     ∙ fault_is set k segments rebases binds references (whole_of segments span) own (outline set k segments frame span image span_is) (same_values set links indexed k segments rebases binds references frame span are own lt image))
+
+-- what an image and its streams have is what its set has of it
+pub parts_of : (set : ImageSet) (k : ℕ) (image : Img) (s : StreamLists) (segments : List Seg) (rebases : List Location) (binds : List BoundWord) (references : List Reference) → IsSoundSet set → k < length set.images → image ≡ get_or set.images k image → s ≡ get_or set.streams k s
+    → segments ≡ body_of image.segments → rebases ≡ s.rebases → binds ≡ s.binds → references ≡ s.references → AreOfImage set k segments rebases binds references
+parts_of set k image s segments rebases binds references sound lt image_is streams_is body rebased bound recorded =
+    let there : slice_get set.images k ≡ Some image = slice_get_read set.images (length set.images) k image refl lt image_is in
+    let spelled : slice_get set.streams k ≡ Some s = slice_get_read set.streams (length set.images) k s (sym sound.many) lt streams_is in
+    record {
+      body = body ∙ ap (λ (o : Option Img). body_of (segments_in o)) (sym there);
+      rebased = rebased ∙ ap (λ (o : Option StreamLists). (streams_in o).rebases) (sym spelled);
+      bound = bound ∙ ap (λ (o : Option StreamLists). (streams_in o).binds) (sym spelled);
+      recorded = recorded ∙ ap (λ (o : Option StreamLists). (streams_in o).references) (sym spelled);
+    }

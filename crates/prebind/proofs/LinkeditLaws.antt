@@ -1,7 +1,8 @@
 -- Of an image that was read, the last segment is `__LINKEDIT`: no other has this name, and it is for reading alone.
-use Rattle.std.proofs.Common.{◌≡◌, ◌≤◌, ◌<◌, ◌+◌, ℕ, suc, Bool, true, false, not, ◌&&◌, ◌||◌, List, [], ◌∷◌, ◌++◌, length, map, filter, refl, sym, ap, ap₂, ◌∙◌, arith, if◌then◌else◌, nat_lt, nat_le, nat_eq, Option, Some, None, option_map}
+use Rattle.std.proofs.Common.{◌≡◌, ◌≤◌, ◌+◌, ◌-◌, ℕ, Bool, true, false, not, ◌&&◌, ◌||◌, List, [], ◌∷◌, ◌++◌, length, length-append, map, take, filter, refl, sym, ap, ap₂, ◌∙◌, arith, if◌then◌else◌, nat_lt, nat_le, nat_eq, Option, Some, None, option_map}
 use Rattle.std.specs.Prelude.{codes}
 use Rattle.std.specs.Cmp.Lexicographic.{same_text}
+use Rattle.std.proofs.Math.Seq.{take-append_seam}
 use Rattle.std.proofs.lemmas.Bool.Decides.{nat_tests}
 use Rattle.std.proofs.lemmas.Bool.{cond-true, cond-false}
 use Rattle.macho_image.specs.Records.{Seg, Img, SegmentLoad}
@@ -97,3 +98,12 @@ ends_in_linkedit image sound =
     let few : nat_lt (length ls) 2 ≡ false = one.0 in
     let some : 2 ≤ length ls = grind (arith, nat_tests) in
     ends_all size image.segments ls sound.segments some three.1
+
+-- without it the others are left
+pub body_before : (image : Img) → IsSound image → (1 ≤ length image.segments) × (take (length image.segments - 1) image.segments ≡ body_of image.segments)
+body_before image sound =
+    let ends = ends_in_linkedit image sound in
+    let body : List Seg = body_of image.segments in
+    let long : length image.segments ≡ length body + 1 = omega (arith, ap (λ (ss : List Seg). length ss) ends.split, length-append body (ends.linkedit ∷ [])) in
+    let count : length image.segments - 1 ≡ length body = omega (arith, long) in
+    (omega (arith, long), ap₂ (λ (n : ℕ) (ss : List Seg). take n ss) count ends.split ∙ take-append_seam body (ends.linkedit ∷ []))

@@ -24,7 +24,7 @@ mod words;
 pub use exports::check_exports;
 pub use index::{Frame, Indexed, index_set};
 pub use place::place_words;
-pub use place_indexed::place_words_indexed;
+pub use place_indexed::{body_segments, place_words_indexed};
 pub use probing::resolve_indexed;
 pub use reading::read_streams;
 pub use resolution::resolve;

@@ -2,7 +2,7 @@
 ghost use Rattle.std.specs.Prelude.{◌≡◌, ◌≤◌, ◌<◌, ◌+◌, length, map, slice_index_or, IfOk};
 ghost use Rattle.dsc_base.specs.Refusals.{Refuses, RefusesSet};
 ghost use Rattle.macho_image.specs.Segments.{segments_at};
-ghost use Rattle.prebind.specs.Bodies.{AreOfOneImage, InEachImage};
+ghost use Rattle.prebind.specs.Bodies.{body_of, AreOfOneImage, InEachImage};
 ghost use Rattle.prebind.specs.Indexed.{AreOfOneSet, InEachSet};
 ghost use Rattle.prebind.specs.Probes.{probes, bind_probes};
 ghost use Rattle.prebind.specs.Words as spec;
@@ -17,7 +17,7 @@ use bind_ops::Bind;
 use dep_closure::Links;
 use dsc_base::{Fault, SetFault};
 use export_trie::Steps;
-use macho_image::{Location, Segment};
+use macho_image::{Image, Location, Segment};
 use split_info::Reference;
 use std::alloc::Global;
 use std::sync::ledger::Ledger;
@@ -91,9 +91,18 @@ fn image_words<L: Ledger>(
     }
 }
 
+/// The segments of an image other than `__LINKEDIT`, which is the last one, in command order.
+pub fn body_segments<'i, 'a>(image: &'i Image<'a>) -> &'i [Segment<'a>]
+    ensures { result.now ≡ body_of image.entry.now.segments }
+{
+    image.facts();
+    let segments = image.segments.as_slice();
+    &segments[..segments.len() - 1]
+}
+
 /// All words of an image that are bound or rebased, in address order, each with where it leads, found by an
 /// index: what `place_words` answers for the set whose links and index these are. `segments` are the image's
-/// segments other than `__LINKEDIT` in command order, and the three lists are those of its streams.
+/// segments as `body_segments` gives them, and the three lists are those of its streams.
 ///
 /// Refuses what `place_words` refuses: `BadOrdinal`, `UnresolvedSymbol` and `ReexportLoop` with the bind's
 /// index, and then `PointsIntoLinkedit`, `RebaseOutside` and `PointerOutOfRange` with the rebase's. `Memory`

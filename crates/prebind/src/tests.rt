@@ -1,4 +1,5 @@
-// Sets of small dylibs: where their words lead, and sets that break each of rules 131 to 137.
+// Sets of small dylibs: where their words lead, and sets that break each of rules 131 to 137, by the files and
+// by an index of the set.
 ghost use Rattle.std.specs.Prelude.{◌≡◌, ◌<◌, None, length, map, All, IfOk, OnOk};
 ghost use Rattle.prebind.specs.Sets.{lists_of, streams_break, IsSoundSet};
 ghost use Rattle.prebind.specs.Steps.{set_of};
@@ -7,14 +8,20 @@ mod dylibs;
 mod rows;
 mod streams;
 
-use crate::{ImageStreams, PlacedWord, Set, WordTarget, check_exports, place_words, read_streams};
+use crate::{
+    ImageStreams, PlacedWord, Set, WordTarget, body_segments, check_exports, index_set,
+    place_words, place_words_indexed, read_streams,
+};
 use dep_closure::link_set;
 use dsc_base::{Fault, SetFault};
 use dylibs::{Dylib, file_of};
+use export_trie::Steps;
 use macho_image::{Form, Image, read_image};
 use rows::{BINDS, EXPORTS, Led, POINTERS, REEXPORTS, Row};
 use std::alloc::Global;
+use std::marker::Brand;
 use std::process::Abort;
+use std::sync::ledger::{Blank, Ledger};
 use std::test::Fail;
 use streams::are_spelled;
 
@@ -59,16 +66,61 @@ fn streams_of<'a>(alloc: Global, images: &[Image<'a>]) -> Result<Vec<ImageStream
     Ok(streams)
 }
 
+// The words of the first image, found by an index of the set.
+fn indexed_words<L: Ledger>(
+    alloc: Global,
+    set: &Set<'_, '_>,
+    steps: &mut Steps<L>,
+) -> Result<Vec<PlacedWord>, SetFault>
+    requires sound { IsSoundSet (set_of set.now) }
+    requires some { 0 < length set.now.images.now }
+{
+    let indexed = index_set(alloc, set)?;
+    indexed.shares();
+    let streams = &set.streams[0];
+    place_words_indexed(
+        alloc,
+        set.links,
+        &indexed,
+        0,
+        body_segments(&set.images[0]),
+        &streams.rebases,
+        &streams.binds,
+        &streams.references,
+        steps,
+    )
+}
+
+// Whether words are found in the files of a set or by an index of it.
+#[derive(Clone, Copy)]
+enum Way {
+    Files,
+    Index,
+}
+
 // The words of the first image, where its exports are accepted.
-fn first_words(alloc: Global, set: &Set<'_, '_>) -> Result<Vec<PlacedWord>, SetFault>
+fn first_words<L: Ledger>(
+    alloc: Global,
+    set: &Set<'_, '_>,
+    way: Way,
+    steps: &mut Steps<L>,
+) -> Result<Vec<PlacedWord>, SetFault>
     requires sound { IsSoundSet (set_of set.now) }
     requires some { 0 < length set.now.images.now }
 {
     check_exports(alloc, set, 0)?;
-    place_words(alloc, set, 0)
+    match way {
+        Way::Files => place_words(alloc, set, 0),
+        Way::Index => indexed_words(alloc, set, steps),
+    }
 }
 
-fn words_of(alloc: Global, files: &[Vec<u8>]) -> Result<Result<Vec<PlacedWord>, SetFault>, Fail> {
+fn words_of<L: Ledger>(
+    alloc: Global,
+    files: &[Vec<u8>],
+    way: Way,
+    steps: &mut Steps<L>,
+) -> Result<Result<Vec<PlacedWord>, SetFault>, Fail> {
     let images = images_of(alloc, files)?;
     let streams = streams_of(alloc, &images)?;
     if images.is_empty() || images.len() > 4097 {
@@ -81,7 +133,7 @@ fn words_of(alloc: Global, files: &[Vec<u8>]) -> Result<Result<Vec<PlacedWord>, 
                 streams: &streams,
                 links: &links,
             };
-            Ok(first_words(alloc, &set))
+            Ok(first_words(alloc, &set, way, steps))
         }
         Err(_) => Err("the set is linked")?,
     }
@@ -105,10 +157,16 @@ fn are_led(rt: &impl Abort, found: &[PlacedWord], wanted: &[Led], title: &str) {
     }
 }
 
-fn row_stands(rt: &impl Abort, alloc: Global, row: &Row) -> Result<(), Fail> {
+fn row_stands<L: Ledger>(
+    rt: &impl Abort,
+    alloc: Global,
+    row: &Row,
+    way: Way,
+    steps: &mut Steps<L>,
+) -> Result<(), Fail> {
     let (title, dylibs, wanted) = *row;
     let files = files_of(alloc, dylibs)?;
-    match (words_of(alloc, &files)?, wanted) {
+    match (words_of(alloc, &files, way, steps)?, wanted) {
         (Ok(found), Ok(words)) => are_led(rt, &found, words, title),
         (Err(SetFault::Broken(found)), Err((rule, at))) => {
             assert_eq!(rt;
@@ -122,31 +180,47 @@ fn row_stands(rt: &impl Abort, alloc: Global, row: &Row) -> Result<(), Fail> {
     Ok(())
 }
 
-fn rows_stand(rt: &impl Abort, alloc: Global, rows: &[Row]) -> Result<(), Fail> {
+// Each row, by the files and by an index.
+fn rows_stand<L: Ledger>(
+    rt: &impl Abort,
+    alloc: Global,
+    rows: &[Row],
+    blank: Blank,
+) -> Result<(), Fail>
+    requires name { blank.name ≡ L.name }
+    requires parts { blank.parts ≡ L.parts }
+    requires one { blank.parts ≡ 1 }
+{
+    let mut steps = Steps::<L>::new(blank);
     for row in rows {
-        row_stands(rt, alloc, row)?;
+        row_stands(rt, alloc, row, Way::Files, &mut steps)?;
+        row_stands(rt, alloc, row, Way::Index, &mut steps)?;
     }
     Ok(())
 }
 
+fn all_stand(rt: &impl Abort, alloc: Global, rows: &[Row]) -> Result<(), Fail> {
+    rows_stand::<Brand>(rt, alloc, rows, Blank::new(1))
+}
+
 #[test]
 fn pointers(rt: HostRuntime) -> Result<(), Fail> {
-    rows_stand(&rt, rt.alloc(), &POINTERS)
+    all_stand(&rt, rt.alloc(), &POINTERS)
 }
 
 #[test]
 fn binds(rt: HostRuntime) -> Result<(), Fail> {
-    rows_stand(&rt, rt.alloc(), &BINDS)
+    all_stand(&rt, rt.alloc(), &BINDS)
 }
 
 #[test]
 fn reexports(rt: HostRuntime) -> Result<(), Fail> {
-    rows_stand(&rt, rt.alloc(), &REEXPORTS)
+    all_stand(&rt, rt.alloc(), &REEXPORTS)
 }
 
 #[test]
 fn exports(rt: HostRuntime) -> Result<(), Fail> {
-    rows_stand(&rt, rt.alloc(), &EXPORTS)
+    all_stand(&rt, rt.alloc(), &EXPORTS)
 }
 
 fn spells(rt: &impl Abort, alloc: Global, row: &streams::Row) -> Result<(), Fail> {

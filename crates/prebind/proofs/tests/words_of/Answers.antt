@@ -25,7 +25,7 @@ sound_of images streams links streams_are links_are few all linked =
     (subst (λ (t : Linked). IsSoundSet (record { images = images; streams = map lists_of images; links = t })) (sym links_are) (sound_set images few (have_streams images all) linked))
 
 pub first_words-requires-clause-sound : goal.first_words-requires-clause-sound
-first_words-requires-clause-sound c =
+first_words-requires-clause-sound g c =
     let few : length c.in_ok-images.images.items ≤ 4097 = omega (arith, c.if-len-gt4097.false, c.len.ensures) in
     let read = c.deref.ensures.value ∙ sym c.deref-in-Ok.ensures.value in
     let linked = c.deref-2.ensures.value ∙ sym c.deref-in-Ok.ensures.value in
