@@ -1,0 +1,4 @@
+pub mod ReachedLaws
+pub mod ShapeLaws
+pub mod SlidLaws
+pub mod ViewLaws
