@@ -53,6 +53,7 @@ pub record AreThree (size : ℕ) (ms : List Mapping) : Type 0 where
   pub long : text + (writable + linkedit) ≡ size
   pub text_pages : text % 4096 ≡ 0
   pub pages : writable % 4096 ≡ 0
+  pub linkedit_pages : linkedit % 4096 ≡ 0
 
 pub three_are : (size : ℕ) (ms : List Mapping) → are_three size ms ≡ true → AreThree size ms
 unfolding are_three
@@ -76,6 +77,7 @@ three_are size (t ∷ (w ∷ (l ∷ []))) is =
       long = omega (arith, long);
       text_pages = one.1;
       pages = two.1;
+      linkedit_pages = three.1;
     }
 
 -- ---- the head
@@ -128,3 +130,11 @@ pub found_none : (size : ℕ) (head : Head) → is_mapped_whole size head ≡ tr
 unfolding shape_finding mapping_finding place_finding
 found_none size head is inside =
     ap₂ (λ (a b : Bool). first_break (cond a None (Some (finding MappingShape 0 0x10)) ∷ cond b None (Some (finding SlideInfoShape 0 0x38)) ∷ [])) is inside
+
+-- mappings that nothing is wrong with
+pub whole_tests : (size : ℕ) (head : Head) → mapping_finding size head ≡ None → (size ≤ 0x20000000) × (are_three size head.mappings ≡ true)
+unfolding mapping_finding is_mapped_whole
+whole_tests size head none =
+    let is = passed (nat_le size 0x20000000 && (are_three size head.mappings && nat_le head.max_slide (region_size - size))) (finding MappingShape 0 0x10) none in
+    let one = both (nat_le size 0x20000000) (are_three size head.mappings && nat_le head.max_slide (region_size - size)) is in
+    (leb-true size 0x20000000 one.0, (both (are_three size head.mappings) (nat_le head.max_slide (region_size - size)) one.1).0)

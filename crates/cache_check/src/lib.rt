@@ -3,8 +3,13 @@
 //! `mach-o/loader.h` of Apple's published sources.
 #![tactic(auto)]
 
+mod finding;
+mod images;
+mod names;
 mod read;
+mod segments;
 mod shape;
+mod streams;
 mod view;
 
 pub use read::read_cache;

@@ -2,10 +2,9 @@
 ghost use Rattle.std.specs.Prelude.{◌≡◌, ◌≤◌, ◌+◌, nat_eq, length};
 ghost use Rattle.dsc_base.specs.Limits.{span_limit};
 ghost use Rattle.dsc_base.specs.Refusals.{RefusesView};
-ghost use Rattle.dsc_base.specs.declared.fault.ViewFault.TheVariants.{Broken};
-ghost use Rattle.cache_header.specs.Findings.{finding};
 ghost use Rattle.cache_check.specs.Shape as spec;
 
+use crate::finding::found;
 use cache_header::{CacheHead, Mapping};
 use dsc_base::{
     Finding, FindingKind, PAGE, REGION_SIZE, REGION_START, SPAN_LIMIT, Span, ViewFault,
@@ -22,12 +21,6 @@ const TEXT: u32 = 5;
 const DATA: u32 = 3;
 
 const LINKEDIT: u32 = 1;
-
-fn found(kind: FindingKind, at: u64) -> ViewFault
-    ensures { result ≡ Broken (finding kind 0 at) }
-{
-    ViewFault::Broken(Finding { kind, image: 0, at })
-}
 
 /// Whether a mapping is of whole pages at a place of the file, and so far from the region's start, with a
 /// protection.
@@ -105,10 +98,10 @@ pub(crate) fn check_shape(head: &CacheHead, size: u64) -> Result<(), ViewFault>
     ensures { RefusesView (spec.shape_finding size head.now) result }
 {
     if !is_mapped_whole(head, size) {
-        return Err(found(FindingKind::MappingShape, MAPPING_FIELD));
+        return Err(found(FindingKind::MappingShape, 0, MAPPING_FIELD));
     }
     if !is_in_mapping(&linkedit_mapping(head), head.slide_info) {
-        return Err(found(FindingKind::SlideInfoShape, SLIDE_INFO_FIELD));
+        return Err(found(FindingKind::SlideInfoShape, 0, SLIDE_INFO_FIELD));
     }
     Ok(())
 }
