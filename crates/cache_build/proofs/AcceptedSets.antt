@@ -1,6 +1,5 @@
 -- Files that break no rule make images that can be built, up to what their words and their linkedit say.
-use Rattle.std.proofs.Common.{◌≡◌, ◌≤◌, ◌<◌, ℕ, Option, Some, None, List, [], length, map, get_or, All, refl, sym, ap, ◌∙◌, subst, arith, inl, inr}
-use Rattle.std.specs.Prelude.{slice_get, slice_index_or}
+use Rattle.std.proofs.Common.{◌≡◌, ◌≤◌, ◌<◌, ℕ, Option, Some, None, List, [], length, get_or, All, refl, sym, ap, ◌∙◌, arith, inl, inr}
 use Rattle.std.specs.Option.{option_or}
 use Rattle.std.proofs.lemmas.Bool.{cases_lt}
 use Rattle.std.proofs.lemmas.List.{get_or_default, length-map, get_or-map, get_or_past}
@@ -17,11 +16,11 @@ use Rattle.macho_image.proofs.Unbroken.{image_unbroken, kind_unbroken, form_is}
 use Rattle.cache_layout.specs.Layouts.{layout_of, layout_break}
 use Rattle.slide_chain.specs.Making.{chains_break}
 use Rattle.export_trie.specs.declared.export.Export.{Export}
-use Rattle.prebind.specs.Sets.{StreamLists, ImageSet, image_set, lists_of}
+use Rattle.prebind.specs.Sets.{ImageSet, image_set, lists_of}
 use Rattle.prebind.specs.Places.{exports_in, strays, export_break}
 use Rattle.prebind.specs.Agree.{HaveExportsInside}
 use Rattle.prebind.proofs.SetLaws.{sound_set}
-use Rattle.load_model.specs.Phases.{images_of, shape_break, files_break}
+use Rattle.load_model.specs.Phases.{dylib_of, images_of, shape_break, files_break}
 use Rattle.load_model.proofs.AcceptedFiles.{AreAccepted, accepted_files}
 use Rattle.load_model.proofs.SoundSets.{unbroken_shape, each_none, sound_images}
 use Rattle.ref_rewrite.specs.Breaks.{rewrite_break}
@@ -41,11 +40,12 @@ alone f none = form_is Standalone (header_in f 0) none
 
 standalone : (files : List (List ℕ)) → in_each shape_break 0 files ≡ None → (k : ℕ) (i : Img) → k < length (images_of files) → i ≡ get_or (images_of files) k i → form_of i.header ≡ Standalone
 standalone files none k i lt at =
-    let inside : k < length files = omega (arith, lt, length-map files (λ (f : List ℕ). image_of f 0)) in
-    let f : List ℕ = get_or files k [] in
-    let own : get_or files k [] ≡ get_or files k f = get_or_default files k [] f inside in
-    let unbroken = image_unbroken Standalone f 0 (unbroken_shape f (each_none 0 files k f none inside own)) in
-    let is : i ≡ image_of f 0 = at ∙ get_or-map (λ (g : List ℕ). image_of g 0) files k [] i inside in
+    let inside : k < length files = omega (arith, lt, length-map files (λ (f : List ℕ). image_of (dylib_of f) 0)) in
+    let file : List ℕ = get_or files k [] in
+    let f : List ℕ = dylib_of file in
+    let own : get_or files k [] ≡ get_or files k file = get_or_default files k [] file inside in
+    let unbroken = image_unbroken Standalone f 0 (unbroken_shape file (each_none 0 files k file none inside own)) in
+    let is : i ≡ image_of f 0 = at ∙ get_or-map (λ (g : List ℕ). image_of (dylib_of g) 0) files k [] i inside in
     ap (λ (j : Img). form_of j.header) is ∙ alone f (kind_unbroken Standalone (header_in f 0) unbroken.kind).kind
 
 unnamed : (f : List ℕ) → command_where is_dyld_info (commands_of (image_of f 0).header) ≡ None → (image_of f 0).streams.exports ≡ []
@@ -55,15 +55,15 @@ unnamed f none = unnamed_none f (header_in f 0) none
 -- an image has no exports where its header has no command that names them
 named : (files : List (List ℕ)) (k : ℕ) (i : Img) → k < length (images_of files) → i ≡ get_or (images_of files) k i → command_where is_dyld_info (commands_of i.header) ≡ None → i.streams.exports ≡ []
 named files k i lt at none =
-    let inside : k < length files = omega (arith, lt, length-map files (λ (f : List ℕ). image_of f 0)) in
-    let f : List ℕ = get_or files k [] in
-    let is : i ≡ image_of f 0 = at ∙ get_or-map (λ (g : List ℕ). image_of g 0) files k [] i inside in
+    let inside : k < length files = omega (arith, lt, length-map files (λ (f : List ℕ). image_of (dylib_of f) 0)) in
+    let f : List ℕ = dylib_of (get_or files k []) in
+    let is : i ≡ image_of f 0 = at ∙ get_or-map (λ (g : List ℕ). image_of (dylib_of g) 0) files k [] i inside in
     ap (λ (j : Img). j.streams.exports) is ∙ unnamed f (sym (ap (λ (j : Img). command_where is_dyld_info (commands_of j.header)) is) ∙ none)
 
 pub accepted_set : (files : List (List ℕ)) → length files ≤ 4096 → AreFiles files → files_break files ≡ None → layout_break (images_of files) ≡ None → IsAccepted (images_of files)
 accepted_set files few bytes none fits =
     let accepted : AreAccepted files = accepted_files files none in
-    let long : length (images_of files) ≡ length files = length-map files (λ (f : List ℕ). image_of f 0) in
+    let long : length (images_of files) ≡ length files = length-map files (λ (f : List ℕ). image_of (dylib_of f) 0) in
     record {
       few = omega (arith, few, long);
       sound = λ k d lt. sound_images 0 files accepted.shapes k d lt;

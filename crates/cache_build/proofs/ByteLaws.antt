@@ -1,4 +1,4 @@
--- The bytes of segments are bytes of their files.
+-- The bytes of segments are bytes.
 use Rattle.std.proofs.Common.{◌≡◌, ◌<◌, ◌+◌, ℕ, zero, suc, List, [], ◌∷◌, ◌++◌, Vec, Global, map, take, drop, length, get_or, refl, sym, ap, subst, ◌∙◌, arith}
 use Rattle.std.specs.List.{All}
 use Rattle.std.proofs.lemmas.List.{length-map, get_or-map}
@@ -7,7 +7,8 @@ use Rattle.macho_image.specs.Records.{Seg, Img, SegmentLoad}
 use Rattle.macho_image.specs.Macho.{header_in, image_of, image_from, segment_of, segment_loads, loads_of}
 use Rattle.cache_layout.specs.Apart.{IsSegment}
 use Rattle.cache_layout.proofs.NumberedLaws.{map-push, take-step}
-use Rattle.load_model.specs.Phases.{contents, images_of}
+use Rattle.load_model.specs.Phases.{contents, dylib_of, images_of}
+use Rattle.load_model.proofs.SliceLaws.{dylib_bytes}
 
 -- what lies behind a list's end counts as 0
 read_byte : (bytes : List ℕ) → All (λ b. b < 256) bytes → (n : ℕ) → get_or bytes n 0 < 256
@@ -30,11 +31,12 @@ image_segments file = refl
 
 pub segment_bytes : (files : List (List ℕ)) → All (λ f. All (λ b. b < 256) f) files → (k g : ℕ) (i : Img) (s : Seg) → IsSegment (images_of files) k g i s → (n : ℕ) → get_or s.bytes n 0 < 256
 segment_bytes files all k g i s there =
-    let inside : k < length files = omega (arith, there.image_in, length-map files (λ (f : List ℕ). image_of f 0)) in
-    let f : List ℕ = get_or files k [] in
-    let own : i.segments ≡ map (segment_of (get_or files k [])) (segment_loads (loads_of (header_in (get_or files k []) 0))) =
-    ap (λ (j : Img). j.segments) (there.image_is ∙ get_or-map (λ (g : List ℕ). image_of g 0) files k [] i inside) ∙ image_segments f in
-    made_bytes f (segment_loads (loads_of (header_in f 0))) g s (all k [] inside) (subst (λ (ss : List Seg). g < length ss) own there.segment_in) (there.segment_is ∙ ap (λ (ss : List Seg). get_or ss g s) own)
+    let inside : k < length files = omega (arith, there.image_in, length-map files (λ (f : List ℕ). image_of (dylib_of f) 0)) in
+    let file : List ℕ = get_or files k [] in
+    let f : List ℕ = dylib_of file in
+    let own : i.segments ≡ map (segment_of f) (segment_loads (loads_of (header_in f 0))) =
+    ap (λ (j : Img). j.segments) (there.image_is ∙ get_or-map (λ (g : List ℕ). image_of (dylib_of g) 0) files k [] i inside) ∙ image_segments f in
+    made_bytes f (segment_loads (loads_of (header_in f 0))) g s (dylib_bytes file (all k [] inside)) (subst (λ (ss : List Seg). g < length ss) own there.segment_in) (there.segment_is ∙ ap (λ (ss : List Seg). get_or ss g s) own)
 
 -- files of which one more is known to be bytes
 pub bytes_more : (files : List (Vec ℕ Global)) (n : ℕ) (f : Vec ℕ Global) (bytes : List ℕ) → All (λ g. All (λ b. b < 256) g) (contents (take n files)) → n < length files → f ≡ get_or files n f → bytes ≡ f.items → All (λ b. b < 256) bytes

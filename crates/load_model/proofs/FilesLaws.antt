@@ -12,7 +12,7 @@ use Rattle.dep_closure.specs.Linked.{Linked, links_of}
 use Rattle.dep_closure.specs.Breaks.{link_break}
 use Rattle.prebind.specs.Sets.{StreamLists, ImageSet, lists_of, image_set, IsSoundSet}
 use Rattle.prebind.proofs.SetLaws.{sound_set}
-use Rattle.load_model.specs.Phases.{contents, images_of, shape_break, linkedits_from, symbols_break, images_break, files_break}
+use Rattle.load_model.specs.Phases.{contents, dylib_of, images_of, shape_break, linkedits_from, symbols_break, images_break, files_break}
 use Rattle.load_model.proofs.LinkeditLaws.{streams_unbroken}
 
 pub few_files : (files : List (Vec ℕ Global)) → length files ≤ 4096 → length (contents files) ≤ 4096
@@ -34,7 +34,7 @@ held_sound files images streams links few images_are streams_are links_are read 
     let same : image_set (images_of files) ≡ held images streams links = sym (held_is files images streams links images_are streams_are links_are) in
     let here : image_set images ≡ held images streams links = ap image_set images_are ∙ same in
     subst IsSoundSet here
-    (sound_set images (let long : length images ≡ length files = ap (λ (l : List Img). length l) images_are ∙ length-map files (λ (f : List ℕ). image_of f 0) in omega (arith, few, long)) (streams_unbroken 0 0 0 images read) linked)
+    (sound_set images (let long : length images ≡ length files = ap (λ (l : List Img). length l) images_are ∙ length-map files (λ (f : List ℕ). image_of (dylib_of f) 0) in omega (arith, few, long)) (streams_unbroken 0 0 0 images read) linked)
 
 -- ---- the phases, one after the other
 

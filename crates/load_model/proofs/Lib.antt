@@ -12,6 +12,7 @@ pub mod PlacedLaws
 pub mod RebasedLaws
 pub mod SetLaws
 pub mod ShapeLaws
+pub mod SliceLaws
 pub mod SoundSets
 pub mod SumLaws
 pub mod Unbroken

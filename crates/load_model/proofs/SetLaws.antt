@@ -10,13 +10,7 @@ use Rattle.dsc_base.specs.declared.fault.SetFault.{SetFault}
 use Rattle.macho_image.specs.Records.{Img}
 use Rattle.macho_image.specs.Macho.{image_of}
 use Rattle.dsc_base.specs.Refusals.{in_image, IsRefusal, in_set, IsSetRefusal, in_each}
-use Rattle.load_model.specs.Phases.{shape_break, images_of, contents}
-
-abbrev pub File : Type 0
-File = Vec ℕ Global
-
-abbrev image_in : File → Img
-image_in f = image_of f.items 0
+use Rattle.load_model.specs.Phases.{dylib_of, shape_break, images_of, contents}
 
 -- so many files are accepted, and these are their images
 pub record AreAccepted (files : List (Vec ℕ Global)) (images : List Img) (n : ℕ) : Type 0 where
@@ -35,14 +29,14 @@ pub accepted_start : (files : List (Vec ℕ Global)) (images : List Img) → ima
 accepted_start files images none = record { images_are = none; rest = refl }
 
 pub accepted_more : (files : List (Vec ℕ Global)) (images images' : List Img) (n : ℕ) (f : Vec ℕ Global) (bytes : List ℕ) (image : Img) → AreAccepted files images n → n < length files → f ≡ get_or files n f → bytes ≡ f.items
-    → shape_break bytes ≡ None → image ≡ image_of bytes 0 → images' ≡ images ++ image ∷ [] → AreAccepted files images' (n + 1)
+    → shape_break bytes ≡ None → image ≡ image_of (dylib_of bytes) 0 → images' ≡ images ++ image ∷ [] → AreAccepted files images' (n + 1)
 accepted_more files images images' n f bytes image kept lt at same none image_is grown =
     let unbroken : shape_break f.items ≡ None = ap shape_break (sym same) ∙ none in
     let more : take (n + 1) files ≡ take n files ++ f ∷ [] = take_more files n f lt ∙ ap (λ (g : Vec ℕ Global). take n files ++ g ∷ []) (sym at) in
     record {
       images_are =
-          grown ∙ (ap₂ (λ (is : List Img) (i : Img). is ++ i ∷ []) kept.images_are (image_is ∙ ap (λ (b : List ℕ). image_of b 0) same)
-          ∙ (sym (map-append (λ (b : List ℕ). image_of b 0) (contents (take n files)) (f.items ∷ []))
+          grown ∙ (ap₂ (λ (is : List Img) (i : Img). is ++ i ∷ []) kept.images_are (image_is ∙ ap (λ (b : List ℕ). image_of (dylib_of b) 0) same)
+          ∙ (sym (map-append (λ (b : List ℕ). image_of (dylib_of b) 0) (contents (take n files)) (f.items ∷ []))
           ∙ (sym (ap images_of (map-append (λ (g : Vec ℕ Global). g.items) (take n files) (f ∷ [])))
           ∙ sym (ap (λ (fs : List (Vec ℕ Global)). images_of (contents fs)) more))));
       rest =

@@ -1,28 +1,22 @@
 -- The images of files that break no rule of the first phase.
-use Rattle.std.proofs.Common.{◌≡◌, ◌<◌, ℕ, zero, suc, ◌+◌, true, false, if◌then◌else◌, Option, Some, None, List, [], ◌∷◌, length, get_or, refl, ap, ◌∙◌, arith}
+use Rattle.std.proofs.Common.{◌≡◌, ◌<◌, ℕ, zero, suc, ◌+◌, Option, Some, None, List, [], ◌∷◌, length, get_or, refl, ap, ◌∙◌, arith}
 use Rattle.std.specs.Option.{option_or, option_map}
 use Rattle.dsc_base.specs.declared.fault.Site.{Site}
 use Rattle.dsc_base.specs.declared.fault.Break.{Break}
-use Rattle.dsc_base.specs.declared.rule.Rule.TheVariants.{NotYet}
 use Rattle.macho_image.specs.declared.form.Form.TheVariants.{Standalone}
 use Rattle.macho_image.specs.Records.{Img}
 use Rattle.macho_image.specs.Macho.{image_of}
 use Rattle.macho_image.specs.Breaks.{image_break, IsSound}
-use Rattle.dsc_base.specs.Refusals.{in_image, broken, first_break, in_each}
+use Rattle.dsc_base.specs.Refusals.{in_image, in_each}
 use Rattle.macho_image.proofs.Unbroken.{or_none, image_sound}
-use Rattle.load_model.specs.Universal.{is_universal}
-use Rattle.load_model.specs.Phases.{shape_break, images_of}
+use Rattle.load_model.specs.Phases.{dylib_of, shape_break, images_of}
 
-pub unbroken_shape : (file : List ℕ) → shape_break file ≡ None → image_break Standalone file 0 ≡ None
+pub unbroken_shape : (file : List ℕ) → shape_break file ≡ None → image_break Standalone (dylib_of file) 0 ≡ None
 unfolding shape_break
-unbroken_shape file none =
-    elim (is_universal file) as (λ b. (if b then Some (record { rule = NotYet; at = 0 }) else image_break Standalone file 0) ≡ None → image_break Standalone file 0 ≡ None) [
-      | true ↦ λ some. absurd (cc)
-      | false ↦ λ is. is
-    ] none
+unbroken_shape file none = (or_none _ _ none).1
 
-pub file_sound : (file : List ℕ) → shape_break file ≡ None → IsSound (image_of file 0)
-file_sound file none = image_sound Standalone file 0 (λ _. refl) (unbroken_shape file none)
+pub file_sound : (file : List ℕ) → shape_break file ≡ None → IsSound (image_of (dylib_of file) 0)
+file_sound file none = image_sound Standalone (dylib_of file) 0 (λ _. refl) (unbroken_shape file none)
 
 first_none : (k : ℕ) (o : Option Site) (rest : Option Break) → option_or {T = Break} (option_map {T = Site} {U = Break} (in_image k) o) rest ≡ None → (o ≡ None) × (rest ≡ None)
 first_none k None rest none = (refl, none)

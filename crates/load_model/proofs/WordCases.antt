@@ -164,6 +164,38 @@ not_true : (b : Bool) → not b ≡ true → b ≡ false
 not_true true is = absurd (cc)
 not_true false is = refl
 
+-- a pointer is a word that is bound, or a rebase that isn't
+pub record IsBoundPointer (set : ImageSet) (k : ℕ) (s : StreamLists) (w : PlacedWord) : Type 0 where
+  pub bind : BoundWord
+  pub there : IsIn s.binds bind
+  pub is : w ≡ placed_bind set k bind
+
+pub record IsFreePointer (k : ℕ) (i : Img) (s : StreamLists) (w : PlacedWord) : Type 0 where
+  pub place : Location
+  pub there : IsIn s.rebases place
+  pub free : is_bound s.binds place.address ≡ false
+  pub is : w ≡ rebased_word k i.segments (pointer_at s.references) place
+
+pub pointer_kinds : (set : ImageSet) (k : ℕ) (i : Img) (s : StreamLists) (w : PlacedWord) → IsIn (all_pointers set k i.segments s) w → IsBoundPointer set k s w ⊎ IsFreePointer k i s w
+pointer_kinds set k i s w there =
+    elim (in_either (map (placed_bind set k) s.binds) (rebased_words k i.segments (is_bound s.binds) (pointer_at s.references) s.rebases) w there) [
+      | inl bound ↦
+          let b : IsOf (placed_bind set k) s.binds w = of_map (placed_bind set k) s.binds w bound in
+          inl (record { bind = b.from; there = b.there; is = b.is })
+      | inr rebased ↦
+          let kept : List Location = filter (is_free (is_bound s.binds)) s.rebases in
+          let r : IsOf (rebased_word k i.segments (pointer_at s.references)) kept w = of_map (rebased_word k i.segments (pointer_at s.references)) kept w rebased in
+          let f = of_filter (is_free (is_bound s.binds)) s.rebases r.from r.there in
+          inr (record { place = r.from; there = f.0; free = not_true (is_bound s.binds r.from.address) f.1; is = r.is })
+    ]
+
+pub other_of : (k : ℕ) (i : Img) (s : StreamLists) (w : Word) → IsIn (map (other_word k i) (filter is_no_pointer s.references)) w → IsOther k i s w
+other_of k i s w there =
+    let others : List Reference = filter is_no_pointer s.references in
+    let r : IsOf (other_word k i) others w = of_map (other_word k i) others w there in
+    let f = of_filter is_no_pointer s.references r.from r.there in
+    record { reference = r.from; there = f.0; other = not_true (is_pointer r.from.kind) f.1; is = r.is }
+
 pub word_cases : (set : ImageSet) (k : ℕ) (i : Img) (s : StreamLists) (w : Word) → IsImageOf set k i s → IsWordOf (words_of set k) w → IsBound set k s w ⊎ (IsRebased k i s w ⊎ IsOther k i s w)
 word_cases set k i s w of is =
     let pointers : List PlacedWord = all_pointers set k i.segments s in
@@ -171,20 +203,11 @@ word_cases set k i s w of is =
     elim (in_either (map pointer_word pointers) (map (other_word k i) others) w (word_in (words_in set k (Some i) (Some s)) w (subst (λ (ws : List Word). IsWordOf ws w) (words_are set k i s of) is))) [
       | inl pointer ↦
           let p : IsOf pointer_word pointers w = of_map pointer_word pointers w pointer in
-          elim (in_either (map (placed_bind set k) s.binds) (rebased_words k i.segments (is_bound s.binds) (pointer_at s.references) s.rebases) p.from p.there) [
-            | inl bound ↦
-                let b : IsOf (placed_bind set k) s.binds p.from = of_map (placed_bind set k) s.binds p.from bound in
-                inl (record { bind = b.from; there = b.there; is = p.is ∙ ap pointer_word b.is })
-            | inr rebased ↦
-                let kept : List Location = filter (is_free (is_bound s.binds)) s.rebases in
-                let r : IsOf (rebased_word k i.segments (pointer_at s.references)) kept p.from = of_map (rebased_word k i.segments (pointer_at s.references)) kept p.from rebased in
-                let f = of_filter (is_free (is_bound s.binds)) s.rebases r.from r.there in
-                inr (inl (record { place = r.from; there = f.0; free = not_true (is_bound s.binds r.from.address) f.1; is = p.is ∙ ap pointer_word r.is }))
+          elim (pointer_kinds set k i s p.from p.there) [
+            | inl bound ↦ inl (record { bind = bound.bind; there = bound.there; is = p.is ∙ ap pointer_word bound.is })
+            | inr free ↦ inr (inl (record { place = free.place; there = free.there; free = free.free; is = p.is ∙ ap pointer_word free.is }))
           ]
-      | inr other ↦
-          let r : IsOf (other_word k i) others w = of_map (other_word k i) others w other in
-          let f = of_filter is_no_pointer s.references r.from r.there in
-          inr (inr (record { reference = r.from; there = f.0; other = not_true (is_pointer r.from.kind) f.1; is = r.is }))
+      | inr other ↦ inr (inr (other_of k i s w other))
     ]
 
 -- ---- and the other way round

@@ -7,4 +7,3 @@ pub mod Memory
 pub mod Phases
 pub mod Placed
 pub mod Sums
-pub mod Universal

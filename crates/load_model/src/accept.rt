@@ -1,27 +1,41 @@
 // Reading files and refusing those that break a rule of the first phase.
-ghost use Rattle.std.specs.Prelude.{◌≡◌, ◌≤◌, None, length, IfOk, IfErr, OnOk, [], ◌∷◌, ◌++◌};
+ghost use Rattle.std.specs.Prelude.{◌≡◌, ◌≤◌, ◌+◌, None, length, IfOk, IfErr, OnOk, [], ◌∷◌, ◌++◌};
 ghost use Rattle.macho_image.specs.Macho.{image_of};
-ghost use Rattle.dsc_base.specs.Refusals.{IsRefusal, IsSetRefusal, in_each};
-ghost use Rattle.load_model.specs.Phases.{shape_break, images_of, contents};
+ghost use Rattle.macho_image.specs.Universal.{bytes_of, slice_break};
+ghost use Rattle.dsc_base.specs.Refusals.{IsRefusal, Refuses, IsSetRefusal, in_each};
+ghost use Rattle.load_model.specs.Phases.{dylib_of, shape_break, images_of, contents};
 
-use crate::universal::begins_universal;
-use dsc_base::{Fault, NoMemory, Rule, SetFault, Site};
-use macho_image::{Form, Image, read_image};
+use dsc_base::{Fault, NoMemory, SetFault, Span};
+use macho_image::{Form, Image, pick_slice, read_image};
 use std::alloc::{AllocError, Global};
 
-/// The image of a file, or the first rule of the first phase that the file breaks.
+/// A part of a file.
+fn part_of<'a>(file: &'a [u8], part: Span) -> &'a [u8]
+    requires { part.at + part.len ≤ length file.now }
+    ensures { result.now ≡ bytes_of file.entry.now part }
+{
+    &file[part.at as usize..][..part.len as usize]
+}
+
+/// The dylib of a file: the slice of a universal file, and another file whole.
+fn dylib_of<'a>(file: &'a [u8]) -> Result<&'a [u8], Fault>
+    ensures dylib { IfOk result (λ b. b.now ≡ dylib_of file.entry.now) }
+    ensures cause { Refuses (slice_break file.entry.now) result }
+{
+    match pick_slice(file) {
+        Ok(slice) => Ok(part_of(file, slice)),
+        Err(site) => Err(Fault::Broken(site)),
+    }
+}
+
+/// The image of a file's dylib, or the first rule of the first phase that the file breaks.
 fn accept<'a>(alloc: Global, file: &'a [u8]) -> Result<Image<'a>, Fault>
-    ensures image { IfOk result (λ i. i ≡ image_of file.entry.now 0) }
+    ensures image { IfOk result (λ i. i ≡ image_of (dylib_of file.entry.now) 0) }
     ensures unbroken { OnOk result (shape_break file.entry.now ≡ None) }
     ensures cause { IfErr result (IsRefusal (shape_break file.entry.now)) }
 {
-    if begins_universal(file) {
-        return Err(Fault::Broken(Site {
-            rule: Rule::NotYet,
-            at: 0,
-        }));
-    }
-    let image = read_image(alloc, file, 0, Form::Standalone)?;
+    let dylib = dylib_of(file)?;
+    let image = read_image(alloc, dylib, 0, Form::Standalone)?;
     Ok(image)
 }
 

@@ -8,7 +8,6 @@ mod loaded;
 mod loading;
 mod set;
 mod symbols;
-mod universal;
 
 pub use loaded::LoadedSegment;
 pub use loading::load_image;

@@ -30,8 +30,10 @@ pub struct FileSet<'a> {
 
 /// The set that files make, read whole and linked.
 ///
+/// The dylib of a universal file is the slice that `pick_slice` gives, and another file is one whole.
+///
 /// Refuses the first rule that they break, by phase and then by image: of the shapes of files `NotMachO` to
-/// `NotYet`; of the streams and tables `RebaseBadUleb` to `SetTooLarge`; of the set `DuplicateName` to
+/// `LinkeditRange`; of the streams and tables `RebaseBadUleb` to `SetTooLarge`; of the set `DuplicateName` to
 /// `MissingDependency`; and of where exports and words lead first `ExportOutside` of all images, and then
 /// `BadOrdinal` to `PointerOutOfRange`. `Memory` says that memory ran out.
 pub fn read_files<'a>(alloc: Global, files: &'a [Vec<u8>]) -> Result<FileSet<'a>, SetFault>
