@@ -1,6 +1,7 @@
 -- The images of a view in which nothing is found.
 use Rattle.std.proofs.Common.{◌≡◌, ℕ, ◌+◌, Option, Some, None, List, [], ◌∷◌, map, refl, sym, ap, ap₂, ◌∙◌}
 use Rattle.std.specs.Prelude.{option_map}
+use Rattle.std.specs.List.{range_with_len}
 use Rattle.std.specs.Option.{option_or}
 use Rattle.dsc_base.specs.declared.fault.Finding.{Finding}
 use Rattle.dsc_base.specs.declared.fault.Site.{Site}
@@ -10,7 +11,9 @@ use Rattle.macho_image.specs.Records.{Img}
 use Rattle.macho_image.specs.declared.form.Form.TheVariants.{Cached}
 use Rattle.macho_image.specs.Breaks.{image_break, image_at, image_unless}
 use Rattle.cache_header.specs.Records.{Entry}
-use Rattle.cache_check.specs.Views.{View}
+use Rattle.cache_header.specs.Reading.{head_read, image_count, image_at as entry_at, images_of as entries_of}
+use Rattle.load_model.specs.Mapped.{flat, cached_image}
+use Rattle.cache_check.specs.Views.{View, view_of}
 use Rattle.cache_check.specs.Images.{header_place, image_in, images_of, cached_images, each_of, rule_finding, broken_finding}
 
 neither : {X : Type 0} (a b : Option X) → option_or a b ≡ None → (a ≡ None) × (b ≡ None)
@@ -42,3 +45,14 @@ pub parts_cached : (v : View) (images : List Img) (bytes : List ℕ) (entries : 
 parts_cached v images bytes entries bytes_are entries_are are none =
     cached_are v images (are ∙ ap₂ (λ (b : List ℕ) (es : List Entry). map (image_in b) es) bytes_are entries_are)
     (sym (ap₂ (λ (b : List ℕ) (es : List Entry). each_of (broken_finding b) 0 es) bytes_are entries_are) ∙ none)
+
+-- ---- the images of a mapped cache
+
+each_cached : (cache : List ℕ) (ks : List ℕ) → map (λ (e : Entry). image_at Cached (flat cache) (header_place e)) (map (entry_at cache) ks) ≡ map (cached_image cache) ks
+unfolding entry_at cached_image
+each_cached cache [] = refl
+each_cached cache (k ∷ ks) = ap (λ (os : List (Option Img)). cached_image cache k ∷ os) (each_cached cache ks)
+
+pub view_images : (cache : List ℕ) → cached_images (view_of cache) ≡ map (cached_image cache) (range_with_len 0 (image_count cache))
+unfolding view_of head_read entries_of
+view_images cache = each_cached cache (range_with_len 0 (image_count cache))

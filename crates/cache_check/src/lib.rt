@@ -14,3 +14,6 @@ mod view;
 
 pub use read::read_cache;
 pub use view::CacheView;
+
+#[cfg(test)]
+mod tests;

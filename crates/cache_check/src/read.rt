@@ -1,9 +1,13 @@
 // Reading a cache.
-ghost use Rattle.std.specs.Prelude.{◌≡◌, ◌≤◌, ◌+◌, ◌++◌, None, length, take, drop, IfOk};
+ghost use Rattle.std.specs.Prelude.{◌≡◌, ◌≤◌, ◌+◌, ◌++◌, None, length, map, take, drop, IfOk};
+ghost use Rattle.std.specs.List.{range_with_len};
 ghost use Rattle.dsc_base.specs.Refusals.{RefusesView};
 ghost use Rattle.dsc_base.specs.declared.fault.Span.{Span};
 ghost use Rattle.slide_chain.specs.Chains.{Suits, chain_words, chain_finding, slid_area};
 ghost use Rattle.slide_chain.specs.Info.{info_read};
+ghost use Rattle.cache_header.specs.Reading.{image_count};
+ghost use Rattle.load_model.specs.Mapped.{cached_image};
+ghost use Rattle.cache_check.specs.Images.{cached_images};
 ghost use Rattle.cache_check.specs.Shape as shape;
 ghost use Rattle.cache_check.specs.Views as spec;
 
@@ -99,6 +103,8 @@ fn flatten(
 #[tactic(auto, unfolding(crate::specs::Views::view_finding))]
 pub fn read_cache(alloc: Global, cache: &[u8]) -> Result<CacheView, ViewFault>
     ensures view { IfOk result (λ v. v ≡ spec.view_of cache.now) }
+    // Its images are those that the cache has where it is mapped.
+    ensures images { IfOk result (λ v. cached_images v ≡ map (cached_image cache.now) (range_with_len 0 (image_count cache.now))) }
     ensures cause { RefusesView (spec.view_finding cache.now) result }
 {
     let head = read_cache_head(alloc, cache)?;
