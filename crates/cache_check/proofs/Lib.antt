@@ -1,0 +1,10 @@
+pub mod CachedLaws
+pub mod EachLaws
+pub mod ImageLaws
+pub mod MarkLaws
+pub mod PathLaws
+pub mod PlacedLaws
+pub mod ReachedLaws
+pub mod ShapeLaws
+pub mod SlidLaws
+pub mod ViewLaws
