@@ -1,7 +1,7 @@
 -- What is found of one image.
-use Rattle.std.proofs.Common.{◌≡◌, ◌≤◌, ◌<◌, ℕ, ◌+◌, Bool, true, false, not, cond, nat_eq, Option, Some, None, List, [], ◌∷◌, map, length, get_or, refl, sym, ap, ap₂, ◌∙◌, subst, arith}
+use Rattle.std.proofs.Common.{◌≡◌, ◌<◌, ℕ, Bool, true, false, not, nat_eq, Some, None, List, map, length, get_or, refl, sym, ap, ◌∙◌}
 use Rattle.std.proofs.lemmas.Bool.{cond-true, cond-false}
-use Rattle.std.proofs.lemmas.List.{length-map, get_or-map}
+use Rattle.std.proofs.lemmas.List.{get_or-map}
 use Rattle.dsc_base.specs.RuleNames.{number_of}
 use Rattle.dsc_base.specs.declared.finding_kind.FindingKind.TheVariants.{NameDiffers, StreamBroken}
 use Rattle.dsc_base.specs.declared.rule.Rule.TheVariants.{RebaseBadUleb}

@@ -1,9 +1,8 @@
 -- Paths of images in a map.
-use Rattle.std.proofs.Common.{◌≡◌, ◌≤◌, ◌<◌, ℕ, ◌+◌, Bool, true, false, cond, List, take, length, get_or, refl, sym, ap, ap₂, ◌∙◌, arith, Option, Some, None, true≢false}
+use Rattle.std.proofs.Common.{◌≡◌, ◌<◌, ℕ, ◌+◌, Bool, true, false, cond, List, take, length, get_or, refl, sym, ap, ap₂, ◌∙◌, arith, Option, Some, None, true≢false}
 use Rattle.std.specs.Prelude.{position, option_map}
 use Rattle.std.specs.Cmp.Lexicographic.{same_text, nat_list_eq_equiv}
 use Rattle.std.proofs.lemmas.List.{take_more, length-take-le}
-use Rattle.dsc_base.specs.declared.fault.Finding.{Finding}
 use Rattle.dsc_base.specs.declared.finding_kind.FindingKind.TheVariants.{NameTwice}
 use Rattle.macho_image.specs.Rules.{same_bytes}
 use Rattle.dep_closure.proofs.PositionLaws.{or_last, position-push}

@@ -1,13 +1,12 @@
 -- Where the words are that the chains of a cache's data reach, and that the chain words among them rise.
-use Rattle.std.proofs.Common.{◌≡◌, ◌≤◌, ◌<◌, ◌⊎◌, ℕ, zero, suc, ◌+◌, ◌*◌, ◌/◌, ◌%◌, ◌^◌, List, [], ◌∷◌, ◌++◌, map, length, drop, Bool, true, false, cond, refl, sym, ap, subst, inl, inr, ◌∙◌, arith}
-use Rattle.std.specs.Prelude.{nat_eq, nat_lt, ◌||◌, Option, None, if◌then◌else◌}
+use Rattle.std.proofs.Common.{◌≡◌, ◌≤◌, ◌<◌, ◌⊎◌, ℕ, zero, suc, ◌+◌, ◌*◌, ◌/◌, ◌%◌, List, [], ◌∷◌, ◌++◌, length, drop, Bool, true, false, cond, refl, sym, ap, subst, inl, inr, ◌∙◌, arith}
+use Rattle.std.specs.Prelude.{nat_eq, nat_lt, ◌||◌, None, if◌then◌else◌}
 use Rattle.std.specs.List.{flat_map, list_any}
-use Rattle.std.proofs.lemmas.Bool.{eqb-true, eq-eqb, ne_eqb, lt-ltb, le-ltb, ltb-false, cond-true, cond-false, cases_eq, cases_lt, cases_Bool, false≢true}
+use Rattle.std.proofs.lemmas.Bool.{ne_eqb, lt-ltb, le-ltb, cond-true, cond-false, cases_eq, cases_lt, false≢true}
 use Rattle.dsc_base.specs.Numbers.{number_at}
 use Rattle.slide_chain.specs.Chains.{Slide, Suits, delta_of, kept, unslid, chain, is_marked, extra_heads, heads, page_reached, each_page, reached, in_order, words_at, chain_words, chain_finding}
 use Rattle.slide_chain.specs.Making.{AreWords, AllBelow}
 use Rattle.slide_chain.specs.Steps.Apart.{KeepsApart, AreApart}
-use Rattle.slide_chain.specs.declared.words.ChainWord.{ChainWord}
 use Rattle.slide_chain.proofs.ApartLaws.{is-sound}
 use Rattle.cache_check.specs.Views.{offsets_of}
 

@@ -1,16 +1,15 @@
 -- The data of a cache at slide 0 have each chain word's value.
-use Rattle.std.proofs.Common.{◌≡◌, ◌≤◌, ◌<◌, ℕ, ◌+◌, ◌-◌, ◌%◌, ◌^◌, List, [], ◌∷◌, ◌++◌, map, length, take, drop, Bool, true, false, cond, refl, sym, ap, subst, inl, inr, ◌∙◌, arith}
+use Rattle.std.proofs.Common.{◌≡◌, ℕ, ◌+◌, ◌-◌, ◌%◌, ◌^◌, List, [], ◌∷◌, ◌++◌, map, length, Bool, true, false, cond, refl, sym, ap, subst, inl, inr, ◌∙◌, arith}
 use Rattle.std.specs.Prelude.{nat_eq, ◌||◌, None}
 use Rattle.std.specs.List.{list_any}
 use Rattle.std.proofs.lemmas.Bool.{eq-eqb, ne_eqb, cases_eq, false≢true}
 use Rattle.dsc_base.specs.Numbers.{number_at}
-use Rattle.dsc_base.specs.Edits.{change_all, put_all, settled, AllInside, AllFit, ApartFrom, AllApart, Holds}
+use Rattle.dsc_base.specs.Edits.{put_all, settled, AllInside, AllFit, ApartFrom, AllApart, Holds}
 use Rattle.dsc_base.specs.declared.edits.Edit.{Edit}
 use Rattle.dsc_base.proofs.NumberLaws.{number_at-append_left, number_at-append_right}
 use Rattle.dsc_base.proofs.EditLaws.{length-put_all, Holds-put_all, change_all-settled}
 use Rattle.slide_chain.specs.Chains.{Slide, Suits, kept, unslid, slid, sliding, reached, in_order, words_at, chain_words, chain_finding, slid_area}
 use Rattle.slide_chain.specs.Steps.Apart.{KeepsApart, AreApart}
-use Rattle.slide_chain.specs.declared.words.ChainWord.{ChainWord}
 use Rattle.slide_chain.proofs.WordLaws.{slid_some, slid-lt}
 use Rattle.cache_check.specs.Views.{HaveValues}
 use Rattle.cache_check.proofs.ReachedLaws.{AllOf, InPages, all-any, reached-in, reached-apart, Rise, order-rises}

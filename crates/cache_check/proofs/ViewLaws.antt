@@ -1,19 +1,19 @@
 -- What is true of the view of a cache in which nothing is found.
-use Rattle.std.proofs.Common.{◌≡◌, ◌≤◌, ◌<◌, ℕ, ◌+◌, ◌*◌, ◌-◌, ◌%◌, List, [], ◌∷◌, ◌++◌, map, length, take, drop, Option, Some, None, refl, sym, ap, ap₂, subst, ◌∙◌, arith, length-append, length-drop}
+use Rattle.std.proofs.Common.{◌≡◌, ◌≤◌, ℕ, ◌+◌, ◌*◌, ◌%◌, List, [], ◌∷◌, ◌++◌, length, take, drop, None, sym, ap, ap₂, subst, ◌∙◌, arith, length-drop}
 use Rattle.std.proofs.lemmas.List.{length-take-le, take_all}
 use Rattle.std.proofs.lemmas.List.FromFn.{length-map-range_with_len}
 use Rattle.slide_chain.specs.Chains.{Slide, Suits, IsRun, chain_words, chain_finding, slid_area}
 use Rattle.slide_chain.specs.Info.{info_read, info_finding}
 use Rattle.slide_chain.specs.declared.words.ChainWord.{ChainWord}
 use Rattle.dsc_base.specs.Refusals.{first_break}
-use Rattle.slide_chain.specs.Making.{AreWords, AllBelow}
+use Rattle.slide_chain.specs.Making.{AllBelow}
 use Rattle.cache_header.specs.declared.head.Mapping.{Mapping}
 use Rattle.cache_header.specs.Records.{Head}
-use Rattle.cache_header.specs.Reading.{head_read, mappings_of, images_of, image_at, image_count, slide_info_bytes}
+use Rattle.cache_header.specs.Reading.{head_read, mappings_of, images_of, image_at, image_count}
 use Rattle.cache_header.specs.Findings.{head_finding}
 use Rattle.cache_header.proofs.SoundLaws.{sound_head}
-use Rattle.load_model.specs.Mapped.{three_mappings, flat}
-use Rattle.load_model.proofs.MappedLaws.{IsThree, slid_data, slid_cache, flat_three, length-slid_cache}
+use Rattle.load_model.specs.Mapped.{flat}
+use Rattle.load_model.proofs.MappedLaws.{IsThree, slid_data, flat_three, length-slid_cache}
 use Rattle.cache_check.specs.Shape.{data_mapping, mapping_finding, place_finding, shape_finding}
 use Rattle.cache_check.specs.Views.{slide_bytes, data_bytes, view_of, flat_with, slide_finding, view_finding, offsets_of, HaveValues, IsSoundView}
 use Rattle.cache_check.proofs.ShapeLaws.{AreThree, IsShaped, shaped, first_none, count_three, data_is}

@@ -1,4 +1,4 @@
-use Rattle.std.proofs.Common.{◌≡◌, ap, arith}
+use Rattle.std.proofs.Common.{ap}
 use Rattle.macho_image.specs.Places.{above}
 use Rattle.dsc_base.specs.Region.{region_start}
 use Rattle.cache_header.specs.Records.{Entry}

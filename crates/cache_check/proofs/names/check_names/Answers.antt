@@ -1,4 +1,4 @@
-use Rattle.std.proofs.Common.{◌≡◌, sym, ◌∙◌}
+use Rattle.std.proofs.Common.{sym, ◌∙◌}
 use Rattle.dsc_base.specs.declared.finding_kind.FindingKind.TheVariants.{NameDiffers}
 use Rattle.cache_check.specs.Images.{header_place, name_finding}
 use Rattle.cache_check.proofs.EachLaws.{clear_more, clear_refused, clear_none, found_at}

@@ -3,7 +3,6 @@ use Rattle.std.specs.Map.{lookup}
 use Rattle.dsc_base.specs.declared.finding_kind.FindingKind.TheVariants.{NameTwice}
 use Rattle.cache_header.specs.Records.{Entry}
 use Rattle.macho_image.specs.Rules.{same_bytes}
-use Rattle.cache_header.specs.Findings.{finding}
 use Rattle.cache_check.specs.Images.{twice_finding}
 use Rattle.cache_check.proofs.EachLaws.{clear_start, clear_more, clear_refused, clear_none, found_at}
 use Rattle.cache_check.proofs.PathLaws.{numbered_new, twice_is}

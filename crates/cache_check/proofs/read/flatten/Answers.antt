@@ -1,4 +1,4 @@
-use Rattle.std.proofs.Common.{◌≡◌, ◌≤◌, ◌+◌, List, ℕ, length, sym, ap, subst, ◌∙◌}
+use Rattle.std.proofs.Common.{◌≤◌, ◌+◌, List, ℕ, length, sym, subst, ◌∙◌}
 use Rattle.dsc_base.specs.declared.fault.Span.{Span}
 use Rattle.cache_check.specs.Shape.{data_mapping}
 use Rattle.cache_check.proofs.ViewLaws.{mappings_count, data_inside}

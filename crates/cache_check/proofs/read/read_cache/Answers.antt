@@ -3,7 +3,7 @@ use Rattle.slide_chain.specs.Chains.{Slide, chain_finding}
 use Rattle.cache_check.specs.Images.{cached_images}
 use Rattle.cache_check.specs.Views.{View, data_bytes}
 use Rattle.cache_check.proofs.CachedLaws.{view_images}
-use Rattle.cache_check.proofs.ViewLaws.{AreParts, parts_are, parts_sound, chains_none, nothing_found}
+use Rattle.cache_check.proofs.ViewLaws.{parts_are, parts_sound, chains_none, nothing_found}
 use Rattle.cache_check.proofs.read.read_cache.Goals as goal
 
 pub flatten-requires-clause-sound : goal.flatten-requires-clause-sound

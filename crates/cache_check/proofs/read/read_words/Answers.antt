@@ -1,4 +1,4 @@
-use Rattle.std.proofs.Common.{◌≡◌, ◌≤◌, ◌+◌, ◌%◌, List, ℕ, length, take, drop, sym, ap, ap₂, subst, ◌∙◌}
+use Rattle.std.proofs.Common.{◌≡◌, ◌≤◌, ◌+◌, ◌%◌, length, take, drop, sym, ap, subst, ◌∙◌}
 use Rattle.dsc_base.specs.declared.fault.Span.{Span}
 use Rattle.slide_chain.specs.Chains.{Slide, Suits}
 use Rattle.cache_header.specs.Records.{Head}

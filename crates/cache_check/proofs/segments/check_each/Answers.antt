@@ -1,4 +1,4 @@
-use Rattle.std.proofs.Common.{◌≡◌, ◌≤◌, ◌++◌, ◌*◌, ◌/◌, List, Bool, ℕ, Option, None, Some, take, length, refl, sym, ap, subst, ◌∙◌, arith}
+use Rattle.std.proofs.Common.{◌≤◌, ◌++◌, ◌*◌, List, None, Some, take, length, refl, sym, ap, subst, ◌∙◌, arith}
 use Rattle.dsc_base.specs.declared.finding_kind.FindingKind.TheVariants.{SegmentOutside}
 use Rattle.macho_image.specs.Records.{Seg, Img}
 use Rattle.cache_check.specs.Images.{segment_finding, segments_of}

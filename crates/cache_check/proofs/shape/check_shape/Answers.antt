@@ -1,9 +1,9 @@
-use Rattle.std.proofs.Common.{◌≡◌, true, false, sym, ap, subst, ◌∙◌}
+use Rattle.std.proofs.Common.{sym, ap, subst, ◌∙◌}
 use Rattle.dsc_base.specs.Refusals.{IsViewRefusal}
 use Rattle.dsc_base.specs.declared.fault.Span.{Span}
 use Rattle.cache_header.specs.declared.head.Mapping.{Mapping}
 use Rattle.cache_header.specs.Records.{Head}
-use Rattle.cache_check.specs.Shape.{is_mapped_whole, is_in_mapping, linkedit_mapping, shape_finding}
+use Rattle.cache_check.specs.Shape.{is_in_mapping, shape_finding}
 use Rattle.cache_check.proofs.ShapeLaws.{whole_is, count_three, found_mappings, found_place, found_none}
 use Rattle.cache_check.proofs.shape.check_shape.Goals as goal
 

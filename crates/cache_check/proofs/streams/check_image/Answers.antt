@@ -1,9 +1,8 @@
-use Rattle.std.proofs.Common.{◌≡◌, ap, sym, subst, ◌∙◌}
+use Rattle.std.proofs.Common.{ap, sym, subst, ◌∙◌}
 use Rattle.std.specs.Prelude.{Option}
 use Rattle.dsc_base.specs.Refusals.{IsViewRefusal}
 use Rattle.dsc_base.specs.declared.fault.Finding.{Finding}
 use Rattle.dsc_base.specs.declared.fault.Site.{Site}
-use Rattle.dsc_base.specs.declared.fault.ViewFault.{ViewFault}
 use Rattle.dsc_base.specs.declared.finding_kind.FindingKind.TheVariants.{StreamBroken}
 use Rattle.cache_check.specs.Images.{rule_finding, linkedit_break, stream_finding}
 use Rattle.cache_check.proofs.EachLaws.{rule_refused, found_at}
