@@ -1,5 +1,7 @@
+pub mod Clap
 pub mod EndLaws
 pub mod InputLaws
+pub mod ListLaws
 pub mod OutputLaws
 pub mod PrefixLaws
 pub mod ReadingLaws

@@ -2,10 +2,12 @@
 //! any streams; `main` gives it the real ones.
 #![tactic(auto)]
 
+mod cache_text;
 mod command;
 mod inputs;
 mod product;
 mod run;
+mod split;
 mod status;
 mod stop;
 mod text;
