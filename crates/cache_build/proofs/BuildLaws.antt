@@ -20,6 +20,11 @@ pub handed_set : {X : Type 0} (found : Option Break) (r : Result X SetFault) (fa
 handed_set found (Ok x) fault is refused = tt
 handed_set found (Err g) fault is refused = subst (λ (f : SetFault). IsSetRefusal found f) (sym is) refused
 
+-- and where it is so for any number of bits
+pub handed_each : {X : Type 0} (files : List (List ℕ)) (r : Result X SetFault) (fault : SetFault) → IsErrAnd r (λ g. g ≡ fault) → ((bits : ℕ) → IsSetRefusal (set_break bits files) fault) → IfErr r (λ e. (bits : ℕ) → IsSetRefusal (set_break bits files) e)
+handed_each files (Ok x) fault is refused = tt
+handed_each files (Err g) fault is refused = subst (λ (f : SetFault). (bits : ℕ) → IsSetRefusal (set_break bits files) f) (sym is) refused
+
 abbrev last_break : ℕ → List (List ℕ) → Option Break
 last_break bits files = behind_layout bits (layout_of (images_of files)) (image_set (images_of files))
 

@@ -8,10 +8,9 @@ use Rattle.prebind.specs.Sets.{StreamLists, ImageSet, lists_of, image_set}
 use Rattle.cache_layout.specs.Layouts.{Laid, layout_of, layout_break}
 use Rattle.load_model.specs.Placed.{AreAllPlaced as AreHeldPlaced}
 use Rattle.load_model.specs.Phases.{images_of, files_break}
-use Rattle.cache_build.specs.Breaks.{behind_layout, set_break}
-use Rattle.cache_build.specs.Built.{built}
 use Rattle.cache_build.specs.Cache.{cache_from}
 use Rattle.cache_build.specs.Filling.{IsPrepared, CanBuild}
+use Rattle.cache_build.specs.Ready.{IsReady}
 use Rattle.cache_build.proofs.AcceptedSets.{accepted_set}
 use Rattle.cache_build.proofs.BuildLaws.{set_behind}
 use Rattle.cache_build.proofs.BuildableSets.{IsAccepted}
@@ -35,7 +34,7 @@ pub record IsRead (files : List (List ℕ)) (images laid_images : List Img) (str
   pub fits : layout_break laid_images ≡ None
 
 -- the set as it is handed on
-abbrev handed : List Img → List StreamLists → Linked → ImageSet
+abbrev pub handed : List Img → List StreamLists → Linked → ImageSet
 handed images streams links = record { images = images; streams = streams; links = links }
 
 read_set : (files : List (List ℕ)) (images laid_images : List Img) (streams : List StreamLists) (tables : List Tabs) (links : Linked) (words : List (Vec PlacedWord Global)) (l : Laid) → IsRead files images laid_images streams tables links words l
@@ -53,7 +52,7 @@ read_accepted : (files : List (List ℕ)) (images laid_images : List Img) (strea
     → IsAccepted (images_of files)
 read_accepted files images laid_images streams tables links words l r = accepted_set files r.few r.bytes r.unbroken (ap layout_break (sym r.laid_of) ∙ r.fits)
 
-pub read_prepared : (files : List (List ℕ)) (images laid_images : List Img) (streams : List StreamLists) (tables : List Tabs) (links : Linked) (words : List (Vec PlacedWord Global)) (l : Laid) → IsRead files images laid_images streams tables links words l
+read_prepared : (files : List (List ℕ)) (images laid_images : List Img) (streams : List StreamLists) (tables : List Tabs) (links : Linked) (words : List (Vec PlacedWord Global)) (l : Laid) → IsRead files images laid_images streams tables links words l
     → IsPrepared (handed images streams links) tables (lists_held words) l
 read_prepared files images laid_images streams tables links words l r =
     let is : List Img = images_of files in
@@ -63,7 +62,7 @@ read_prepared files images laid_images streams tables links words l r =
     (subst (λ (ts : List Tabs). IsPrepared (image_set is) ts (lists_held words) l) (sym r.tables_are)
     (subst (λ (m : Laid). IsPrepared (image_set is) (map tables_of is) (lists_held words) m) (sym (read_layout files images laid_images streams tables links words l r)) all))
 
-pub read_can : (bits : ℕ) (files : List (List ℕ)) (images laid_images : List Img) (streams : List StreamLists) (tables : List Tabs) (links : Linked) (words : List (Vec PlacedWord Global)) (l : Laid) → (1 ≤ bits) × (bits ≤ 16) → IsRead files images laid_images streams tables links words l
+read_can : (bits : ℕ) (files : List (List ℕ)) (images laid_images : List Img) (streams : List StreamLists) (tables : List Tabs) (links : Linked) (words : List (Vec PlacedWord Global)) (l : Laid) → (1 ≤ bits) × (bits ≤ 16) → IsRead files images laid_images streams tables links words l
     → CanBuild bits l (handed images streams links)
 read_can bits files images laid_images streams tables links words l some r =
     let is : List Img = images_of files in
@@ -72,13 +71,22 @@ read_can bits files images laid_images streams tables links words l some r =
     subst (λ (s : ImageSet). CanBuild bits l s) (sym (read_set files images laid_images streams tables links words l r))
     (subst (λ (m : Laid). CanBuild bits m (image_set is)) (sym (read_layout files images laid_images streams tables links words l r)) all)
 
--- what is refused behind the layout, and what is built
-pub read_behind : (bits : ℕ) (files : List (List ℕ)) (images laid_images : List Img) (streams : List StreamLists) (tables : List Tabs) (links : Linked) (words : List (Vec PlacedWord Global)) (l : Laid) → IsRead files images laid_images streams tables links words l
-    → set_break bits files ≡ behind_layout bits l (handed images streams links)
-read_behind bits files images laid_images streams tables links words l r =
-    set_behind bits files laid_images l (handed images streams links) r.laid_of (read_set files images laid_images streams tables links words l r) r.laid r.unbroken r.fits
+-- so it is ready for what is built of it, and so it stays wherever it is handed on
+pub read_ready : (files : List (List ℕ)) (images laid_images : List Img) (streams : List StreamLists) (tables : List Tabs) (links : Linked) (words : List (Vec PlacedWord Global)) (l : Laid) → IsRead files images laid_images streams tables links words l
+    → (bits : ℕ) → (1 ≤ bits) × (bits ≤ 16) → IsReady bits files (handed images streams links) tables (lists_held words) l
+read_ready files images laid_images streams tables links words l r bits some =
+    let set : handed images streams links ≡ image_set (images_of files) = read_set files images laid_images streams tables links words l r in
+    record {
+      prepared = read_prepared files images laid_images streams tables links words l r;
+      can = read_can bits files images laid_images streams tables links words l some r;
+      breaks = set_behind bits files laid_images l (handed images streams links) r.laid_of set r.laid r.unbroken r.fits;
+      cache = ap₂ (λ (m : Laid) (s : ImageSet). cache_from bits m s) (read_layout files images laid_images streams tables links words l r) set;
+    }
 
-pub read_built : (bits : ℕ) (files : List (List ℕ)) (images laid_images : List Img) (streams : List StreamLists) (tables : List Tabs) (links : Linked) (words : List (Vec PlacedWord Global)) (l : Laid) → IsRead files images laid_images streams tables links words l
-    → cache_from bits l (handed images streams links) ≡ built bits files
-read_built bits files images laid_images streams tables links words l r =
-    ap₂ (λ (m : Laid) (s : ImageSet). cache_from bits m s) (read_layout files images laid_images streams tables links words l r) (read_set files images laid_images streams tables links words l r)
+pub ready_handed : (bits : ℕ) (files : List (List ℕ)) (images images' : List Img) (streams streams' : List StreamLists) (tables tables' : List Tabs) (links : Linked) (words words' : List (Vec PlacedWord Global)) (l : Laid)
+    → IsReady bits files (handed images streams links) tables (lists_held words) l → images' ≡ images → streams' ≡ streams → tables' ≡ tables → words' ≡ words → IsReady bits files (handed images' streams' links) tables' (lists_held words') l
+ready_handed bits files images images' streams streams' tables tables' links words words' l ready images_are streams_are tables_are words_are =
+    subst (λ (is : List Img). IsReady bits files (handed is streams' links) tables' (lists_held words') l) (sym images_are)
+    (subst (λ (ss : List StreamLists). IsReady bits files (handed images ss links) tables' (lists_held words') l) (sym streams_are)
+    (subst (λ (ts : List Tabs). IsReady bits files (handed images streams links) ts (lists_held words') l) (sym tables_are)
+    (subst (λ (ws : List (Vec PlacedWord Global)). IsReady bits files (handed images streams links) tables (lists_held ws) l) (sym words_are) ready)))

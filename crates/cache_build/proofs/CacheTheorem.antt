@@ -1,24 +1,21 @@
 -- The cache of a set that breaks no rule corresponds to its files, wherever they are loaded and at every permitted slide.
-use Rattle.std.proofs.Common.{◌≡◌, ◌≤◌, ◌<◌, ℕ, ◌+◌, ◌-◌, Some, None, List, [], length, get_or, refl, sym, ap, ◌∙◌, subst, arith}
+use Rattle.std.proofs.Common.{◌≡◌, ◌≤◌, ◌<◌, ℕ, ◌+◌, ◌-◌, Some, None, List, [], length, get_or, sym, ◌∙◌, subst, arith}
 use Rattle.std.specs.Prelude.{slice_get, slice_index_or, nat_eq}
 use Rattle.std.proofs.lemmas.Bool.{cond-false, ne_eqb}
-use Rattle.std.proofs.lemmas.Option.{slice_get_within, get_or_from_slice_get, slice_get_read}
-use Rattle.macho_image.specs.Records.{Seg, Img}
-use Rattle.macho_image.specs.Breaks.{IsSound}
+use Rattle.std.proofs.lemmas.Option.{slice_get_within, get_or_from_slice_get}
+use Rattle.macho_image.specs.Records.{Img}
 use Rattle.macho_image.specs.declared.section.Section.{Section}
 use Rattle.macho_image.specs.Places.{numbered_section}
 use Rattle.macho_image.specs.Segments.{header_address}
 use Rattle.cache_layout.specs.Layouts.{layout_of}
 use Rattle.prebind.specs.Sets.{image_set}
 use Rattle.prebind.specs.Words.{Word, words_of}
-use Rattle.split_info.specs.References.{width_of}
 use Rattle.load_model.specs.Loading.{in_memory}
 use Rattle.load_model.specs.Phases.{images_of}
 use Rattle.load_model.specs.Corresponds.{Leads, loaded_side, mapped_side, IsWordOf, WordCorresponds, ImageCorresponds, Corresponds}
 use Rattle.load_model.proofs.LoadedReferences.{HaveBytes}
 use Rattle.load_model.proofs.LoadedSides.{IsLoadedWord, IsLoaded, image_loaded}
 use Rattle.load_model.proofs.LoadedBytes.{IsLoadedByte}
-use Rattle.load_model.proofs.WordPlaces.{StandsIn}
 use Rattle.ref_rewrite.proofs.FitLaws.{segment_there}
 use Rattle.cache_build.specs.Always.{CorrespondsAlways}
 use Rattle.cache_build.specs.Cache.{no_spots, cache_of}

@@ -1,17 +1,15 @@
 -- Where each word of a set stands in its cache: as far behind its segment's place as in the image's own file, and pointers in the data.
-use Rattle.std.proofs.Common.{◌≡◌, ◌≤◌, ◌<◌, ℕ, ◌+◌, ◌-◌, false, Some, List, length, get_or, refl, sym, ap, ◌∙◌, subst, arith, inl, inr}
+use Rattle.std.proofs.Common.{◌≡◌, ◌≤◌, ◌<◌, ℕ, ◌+◌, ◌-◌, false, Some, List, length, get_or, sym, ap, ◌∙◌, subst, arith, inl, inr}
 use Rattle.std.specs.Prelude.{slice_get}
 use Rattle.std.proofs.lemmas.Bool.{false≢true}
 use Rattle.std.proofs.lemmas.Option.{same_Some, slice_get_within, get_or_from_slice_get}
-use Rattle.dsc_base.specs.Region.{region_start, paged}
-use Rattle.dsc_base.specs.declared.edits.Edit.{Edit}
+use Rattle.dsc_base.specs.Region.{region_start}
 use Rattle.macho_image.specs.Records.{Seg, Img}
 use Rattle.macho_image.specs.Breaks.{IsSound}
 use Rattle.macho_image.specs.Rules.{is_linkedit_segment}
-use Rattle.macho_image.specs.Places.{IsWord, wrap, above}
+use Rattle.macho_image.specs.Places.{IsWord, above}
 use Rattle.macho_image.specs.Segments.{start_of}
 use Rattle.macho_image.proofs.AboveLaws.{above_plain}
-use Rattle.split_info.specs.declared.reference.RefKind.{RefKind}
 use Rattle.split_info.specs.declared.reference.RefKind.TheVariants.{Pointer64}
 use Rattle.split_info.specs.Overlap.{is_pointer}
 use Rattle.split_info.specs.References.{width_of}
@@ -21,7 +19,7 @@ use Rattle.prebind.specs.Words.{Word}
 use Rattle.cache_layout.specs.declared.mapping.Mapping.{Mapping}
 use Rattle.cache_layout.specs.declared.mapping.Mapping.TheVariants.{Writable}
 use Rattle.cache_layout.specs.Places.{mapping_of}
-use Rattle.cache_layout.specs.Layouts.{Laid, layout_of}
+use Rattle.cache_layout.specs.Layouts.{layout_of}
 use Rattle.cache_layout.specs.Apart.{IsSegment, range_in, move_at}
 use Rattle.cache_layout.proofs.PlaceLaws.{are_within}
 use Rattle.cache_layout.proofs.RoomLaws.{paged-covers}

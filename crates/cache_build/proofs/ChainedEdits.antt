@@ -34,7 +34,7 @@ use Rattle.cache_build.specs.Edits.{image_chained, edits_of, chained_of}
 use Rattle.cache_build.proofs.GatherLaws.{words_rise, words_below}
 use Rattle.cache_build.proofs.WholeCaches.{chained_are}
 use Rattle.cache_build.proofs.ImageWords.{IsReadSet, IsOne, one_of, pointer_is_word}
-use Rattle.cache_build.proofs.JoinedEdits.{IsJoined, of_joined, IsNumbered, of_numbered}
+use Rattle.cache_build.proofs.Memberships.{IsOfOne, of_flat, IsNumbered, of_numbered}
 use Rattle.cache_build.proofs.WordNumbers.{pointer_high}
 use Rattle.cache_build.proofs.WordEdits.{own_edit, image_fit, edit_among, all_apart, all_fit}
 
@@ -78,9 +78,9 @@ image_linked set k a i given image there =
     let l : Laid = layout_of set.images in
     let placed : List PlacedWord = ordered_pointers set k in
     let one = one_of set k i given image in
-    let q : IsJoined (chained_in l k i.segments placed) (enumerate_from 0 i.segments) a = of_joined (chained_in l k i.segments placed) (enumerate_from 0 i.segments) a there in
-    let g : ℕ = q.item.0 in
-    let o : IsOf (data_offset l k i.segments) (filter (is_chained g) placed) a = of_map (data_offset l k i.segments) (filter (is_chained g) placed) a q.own in
+    let q : IsOfOne (chained_in l k i.segments placed) (enumerate_from 0 i.segments) a = of_flat (chained_in l k i.segments placed) (enumerate_from 0 i.segments) a there in
+    let g : ℕ = q.from.0 in
+    let o : IsOf (data_offset l k i.segments) (filter (is_chained g) placed) a = of_map (data_offset l k i.segments) (filter (is_chained g) placed) a q.inside in
     let f = of_filter (is_chained g) placed o.from o.there in
     subst (λ (n : ℕ). HasPointer (data_edits set) n) (sym o.is)
     (pointer_linked set k i one.0 o.from given one.1 f.0 (and_parts (nat_eq o.from.at.segment g) (leads_to_place o.from.target) f.1).1)
@@ -89,10 +89,10 @@ chained_linked : (set : ImageSet) (a : ℕ) → IsReadSet set → IsIn (chained_
 unfolding chained_of
 chained_linked set a given there =
     let gives : ℕ × Img → List ℕ = λ p. image_chained (layout_of set.images) set p.0 p.1 in
-    let j : IsJoined gives (enumerate_from 0 set.images) a = of_joined gives (enumerate_from 0 set.images) a there in
-    let n : IsNumbered 0 set.images j.item = of_numbered 0 set.images j.item j.there in
-    let index : j.item.0 ≡ n.index = omega (arith, n.number) in
-    image_linked set j.item.0 a j.item.1 given (ap (λ (m : ℕ). slice_get set.images m) index ∙ n.found) j.own
+    let j : IsOfOne gives (enumerate_from 0 set.images) a = of_flat gives (enumerate_from 0 set.images) a there in
+    let n : IsNumbered 0 set.images j.from = of_numbered 0 set.images j.from j.there in
+    let index : j.from.0 ≡ n.index = omega (arith, n.number) in
+    image_linked set j.from.0 a j.from.1 given (ap (λ (m : ℕ). slice_get set.images m) index ∙ n.found) j.inside
 
 have_each : (es : List Edit) (chained : List ℕ) → ((a : ℕ) → IsIn chained a → HasPointer es a) → HavePointers es chained
 have_each es [] each = tt

@@ -1,17 +1,16 @@
 -- Which words of a set are chained in its cache: the pointers that lead to places, and no others.
-use Rattle.std.proofs.Common.{◌≡◌, ◌≤◌, ◌<◌, ℕ, ◌+◌, ◌-◌, Bool, true, false, ◌&&◌, Some, List, map, length, refl, sym, ap, ap₂, ◌∙◌, subst, arith, inl, inr}
-use Rattle.std.specs.Prelude.{slice_get, nat_eq, filter}
-use Rattle.std.specs.List.{flat_map, enumerate_from, list_any}
+use Rattle.std.proofs.Common.{◌≡◌, ◌≤◌, ◌<◌, ℕ, ◌+◌, ◌-◌, Bool, true, false, ◌&&◌, List, map, refl, sym, ap, ◌∙◌, subst, arith, inl, inr}
+use Rattle.std.specs.Prelude.{nat_eq, filter}
+use Rattle.std.specs.List.{enumerate_from, list_any}
 use Rattle.std.proofs.lemmas.Bool.{cases_Bool, eqb-true, eq-eqb, false≢true}
-use Rattle.std.proofs.lemmas.Bool.Decides.{nat_tests}
 use Rattle.dsc_base.specs.Edits.{AllApart}
-use Rattle.macho_image.specs.Records.{Seg, Img}
+use Rattle.macho_image.specs.Records.{Img}
 use Rattle.split_info.specs.declared.reference.RefKind.{RefKind}
 use Rattle.split_info.specs.declared.reference.RefKind.TheVariants.{Pointer64, Delta32, Delta64, ImageOff32}
 use Rattle.split_info.specs.References.{width_of}
 use Rattle.split_info.specs.Overlap.{is_pointer}
 use Rattle.prebind.specs.declared.resolved.PlacedWord.{PlacedWord}
-use Rattle.prebind.specs.Sets.{ImageSet, image_set}
+use Rattle.prebind.specs.Sets.{image_set}
 use Rattle.prebind.specs.Words.{Word, pointer_word, is_no_pointer, streams_at, ordered_pointers}
 use Rattle.cache_layout.specs.Layouts.{Laid, layout_of}
 use Rattle.load_model.proofs.WordCases.{IsIn, IsOf, in_left, in_map, of_map, in_filter, of_filter, other_word}
@@ -19,7 +18,7 @@ use Rattle.ref_rewrite.specs.Planned.{leads_to_place, is_chained, data_offset, c
 use Rattle.cache_build.specs.Edits.{image_chained, chained_of}
 use Rattle.cache_build.proofs.BuildableSets.{IsAccepted, set_edits, set_chained}
 use Rattle.cache_build.proofs.Memberships.{IsOfOne, of_flat, in_flat, in_enumerated, of_any, in_any, IsByteOf}
-use Rattle.cache_build.proofs.SetWords.{SetWord, words_at, numbered_words, set_words, edit_at, IsPointer, at_cases, IsOfSet, of_set, one_word}
+use Rattle.cache_build.proofs.SetWords.{SetWord, words_at, numbered_words, set_words, edit_at, at_cases, IsOfSet, of_set, one_word}
 use Rattle.cache_build.proofs.CachedWords.{Stands, word_stands_at, pointer_in_data}
 
 -- a pointer that leads to a place

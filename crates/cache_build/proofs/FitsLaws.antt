@@ -1,28 +1,25 @@
 -- Sound images with a layout make a cache.
-use Rattle.std.proofs.Common.{◌≡◌, ◌≤◌, ◌<◌, ℕ, ◌+◌, Bool, true, false, not, ◌&&◌, ◌||◌, cond, if◌then◌else◌, nat_eq, nat_le, nat_lt, Option, Some, None, option_map, List, [], ◌∷◌, length, map, get_or, refl, sym, ap, ◌∙◌, arith}
-use Rattle.std.specs.Prelude.{find, slice_get, slice_index_or}
+use Rattle.std.proofs.Common.{◌≡◌, ◌≤◌, ◌<◌, ℕ, ◌+◌, Bool, true, false, not, ◌&&◌, ◌||◌, cond, if◌then◌else◌, nat_le, nat_lt, Option, Some, None, option_map, List, [], ◌∷◌, length, get_or, refl, sym, ap, ◌∙◌, arith}
+use Rattle.std.specs.Prelude.{find}
 use Rattle.std.specs.List.{list_any}
-use Rattle.std.proofs.lemmas.Bool.Decides.{nat_tests}
-use Rattle.std.proofs.lemmas.List.{get_or_default, length-map}
-use Rattle.std.proofs.lemmas.Option.{get_or_from_slice_get}
-use Rattle.std.proofs.Math.ListN.{get_or-map}
+use Rattle.std.proofs.lemmas.List.{get_or_default}
+use Rattle.std.proofs.lemmas.Option.{slice_get_within, get_or_from_slice_get}
 use Rattle.dsc_base.specs.Numbers.{number_at}
 use Rattle.dsc_base.specs.declared.rule.Rule.TheVariants.{NoInstallName}
-use Rattle.macho_image.specs.Records.{Seg, Img, Load, SegmentLoad}
-use Rattle.macho_image.specs.declared.place.Moved.{Moved}
-use Rattle.macho_image.specs.Macho.{header_size, commands_of, loads_of, pieces_of, number_of, segment_loads, segment_with, command_where, install_name_of, is_install_name, is_dylib, dylib_name}
-use Rattle.macho_image.specs.Rules.{is_text, is_good_text, is_plain_name, is_linkedit_segment, misplaced, misplaced_behind, breaks_name_text, breaks_no_install_name}
-use Rattle.macho_image.specs.Breaks.{header_break, command_break, unread, IsSound}
+use Rattle.macho_image.specs.Records.{Seg, Img, Load}
+use Rattle.macho_image.specs.Macho.{commands_of, loads_of, pieces_of, number_of, command_where, install_name_of, is_install_name, is_dylib, dylib_name}
+use Rattle.macho_image.specs.Rules.{is_plain_name, is_linkedit_segment, breaks_name_text, breaks_no_install_name}
+use Rattle.macho_image.specs.Breaks.{header_break, command_break, IsSound}
 use Rattle.macho_image.proofs.Images.{pieces_of-loads_from}
 use Rattle.macho_image.proofs.Unbroken.{or_none, broken_none}
 use Rattle.cache_header.specs.Paths.{is_plain_path}
-use Rattle.cache_layout.specs.declared.mapping.Mapping.TheVariants.{Writable}
 use Rattle.cache_layout.specs.Layouts.{layout_of, layout_break}
-use Rattle.cache_layout.specs.Apart.{IsSegment, AreInTurn, move_at}
-use Rattle.cache_layout.proofs.SoundLaws.{sound_rules, shape_parts, both, load-of, sound_linkedit}
+use Rattle.cache_layout.specs.Apart.{IsSegment, move_at}
+use Rattle.cache_layout.proofs.SoundLaws.{sound_rules, both, sound_linkedit}
 use Rattle.cache_layout.proofs.SpaceLaws.{sound_space}
 use Rattle.cache_layout.proofs.RoomLaws.{paged-covers}
 use Rattle.cache_layout.proofs.PlaceLaws.{are_within}
+use Rattle.ref_rewrite.proofs.HomeLaws.{header_fits, two_segments}
 use Rattle.cache_build.specs.Head.{text_size}
 use Rattle.cache_build.specs.Fits.{HasRoom, Fits}
 
@@ -86,35 +83,8 @@ sound_path image sound =
 
 -- ---- the header in the text segment
 
-good_first : (size : ℕ) (ls : List SegmentLoad) (l : SegmentLoad) → misplaced size ls ≡ None → 0 < length ls → l ≡ get_or ls 0 l → is_good_text size l ≡ true
-good_first size [] l none some at = absurd (omega arith)
-good_first size (k ∷ ls) l none some at = ap (is_good_text size) at ∙ yes (is_good_text size k) k.at (misplaced_behind ls) none
-  where
-    yes : (b : Bool) (n : ℕ) (o : Option ℕ) → (if b then o else Some n) ≡ None → b ≡ true
-    yes true n o e = refl
-    yes false n o e = absurd (cc)
-
 pub sound_begins : (image : Img) → IsSound image → HasRoom image.header image.segments
-sound_begins image sound s found =
-    let ls : List SegmentLoad = segment_loads (loads_of image.header) in
-    let size : ℕ = header_size image.header in
-    let at : s ≡ get_or image.segments 0 s = sym (get_or_from_slice_get image.segments 0 s s found) in
-    let some : 0 < length image.segments = there image.segments s found in
-    let command = load-of image.segments ls sound.segments 0 s some at in
-    let good = both (is_text command.0) _ (good_first size ls command.0 (shape_parts size ls (sound_rules image sound).shape).3 command.1 command.2) in
-    let room : nat_le size command.0.filesize ≡ true = (both (nat_eq command.0.initprot 5) _ good.1).1 in
-    let same : s.filesize ≡ command.0.filesize = ap (λ (t : Seg). t.filesize) command.3 in
-    let long : length s.bytes ≡ s.filesize =
-    ap (λ (t : Seg). length t.bytes) at ∙ (sym (get_or-map (λ (t : Seg). length t.bytes) image.segments 0 s)
-    ∙ (ap (λ (ns : List ℕ). get_or ns 0 (length s.bytes)) sound.sizes
-    ∙ (get_or_default (map (λ (t : Seg). t.filesize) image.segments) 0 (length s.bytes) s.filesize (omega (arith, some, length-map image.segments (λ (t : Seg). t.filesize)))
-    ∙ (get_or-map (λ (t : Seg). t.filesize) image.segments 0 s ∙ sym (ap (λ (t : Seg). t.filesize) at))))) in
-    let le : size ≤ command.0.filesize = grind (arith, nat_tests) in
-    omega (arith, sound.whole, le, same, long)
-  where
-    there : (ss : List Seg) (t : Seg) → slice_get ss 0 ≡ Some t → 0 < length ss
-    there [] t is = absurd (cc)
-    there (u ∷ ss) t is = omega arith
+sound_begins image sound s found = header_fits image sound s (slice_get_within image.segments 0 s found) (sym (get_or_from_slice_get image.segments 0 s s found))
 
 -- ---- the set
 
@@ -123,14 +93,6 @@ pub low_end : (images : List Img) → layout_break images ≡ None → (k g : �
 low_end images none k g i s there owned =
     let own = are_within images none k g i s there owned in
     omega (arith, own.2.end, own.2.span, paged-covers s.vmsize)
-
-pub two_segments : (image : Img) → IsSound image → 2 ≤ length image.segments
-two_segments image sound =
-    let ls : List SegmentLoad = segment_loads (loads_of image.header) in
-    let few : nat_lt (length ls) 2 ≡ false = (shape_parts (header_size image.header) ls (sound_rules image sound).shape).0 in
-    let long : length image.segments ≡ length ls = sym (length-map image.segments unread) ∙ (ap (λ (ts : List Seg). length ts) sound.segments ∙ length-map ls (segment_with [])) in
-    let some : 2 ≤ length ls = grind (arith, nat_tests) in
-    omega (arith, some, long)
 
 text_first : (ss : List Seg) (d : Seg) → 0 < length ss → text_size ss ≡ (get_or ss 0 d).vmsize
 text_first [] d some = absurd (omega arith)

@@ -23,6 +23,7 @@ use Rattle.load_model.specs.Mapped.{three_mappings}
 use Rattle.cache_build.specs.declared.frame.Frame.{Frame}
 use Rattle.cache_build.specs.Fits.{Fits}
 use Rattle.cache_build.specs.Head.{entry_of, head_of}
+use Rattle.cache_build.proofs.FitsLaws.{no_segment}
 use Rattle.cache_build.proofs.HeadLaws.{no_image, writable_head}
 
 -- images with a layout, of which a head can tell
@@ -46,9 +47,6 @@ three_fit a b c small_a small_b small_c zero d lt = record { address = omega ari
 three_fit a b c small_a small_b small_c (suc zero) d lt = record { address = omega (arith, small_a); size = omega (arith, small_b); file = omega (arith, small_a); max_prot = omega arith; init_prot = omega arith }
 three_fit a b c small_a small_b small_c (suc (suc zero)) d lt = record { address = omega (arith, small_a, small_b); size = omega (arith, small_c); file = omega (arith, small_a, small_b); max_prot = omega arith; init_prot = omega arith }
 three_fit a b c small_a small_b small_c (suc (suc (suc k))) d lt = absurd (omega arith)
-
-no_segment : Seg
-no_segment = record { name = []; vmaddr = 0; vmsize = 0; fileoff = 0; filesize = 0; maxprot = 0; initprot = 0; flags = 0; bytes = [] }
 
 abbrev nowhere : Moved
 nowhere = record { address = 0; file = 0 }
@@ -111,7 +109,7 @@ sum_paths l n (i ∷ is) =
     sum_by-cons path_room (entry_of l n i) (map (λ (p : ℕ × Img). entry_of l p.0 p.1) (enumerate_from (n + 1) is))
     ∙ (ap (λ (m : ℕ). length i.install_name + 1 + m) (sum_paths l (n + 1) is) ∙ sym (sum_by-cons path_size i is))
 
-entries_are : (l : Laid) (frame : Frame) (is : List Img) → (head_of l frame is).images ≡ numbered (entry_of l) is
+pub entries_are : (l : Laid) (frame : Frame) (is : List Img) → (head_of l frame is).images ≡ numbered (entry_of l) is
 unfolding head_of
 entries_are l frame is = refl
 

@@ -21,9 +21,8 @@ use Rattle.split_info.specs.Overlap.{is_pointer, shares, meets, meets_word, stra
 use Rattle.split_info.specs.Split.{IsReference, AreReferences}
 use Rattle.prebind.specs.declared.resolved.PlacedWord.{PlacedWord}
 use Rattle.prebind.specs.Sets.{StreamLists, ImageSet, IsSplitRead, IsSoundSet}
-use Rattle.prebind.specs.Targets.{pointer_at}
 use Rattle.prebind.specs.WordRules.{place_break}
-use Rattle.prebind.specs.Words.{Word, ArePlaced, put_word, in_word_order, all_pointers, pointers_of, ordered_pointers, placed_bind, is_bound, is_free, rebased_word, rebased_words, pointer_word, is_no_pointer, streams_in, streams_at}
+use Rattle.prebind.specs.Words.{Word, ArePlaced, put_word, in_word_order, all_pointers, pointers_of, ordered_pointers, pointer_word, is_no_pointer, streams_in, streams_at}
 use Rattle.cache_layout.specs.Layouts.{layout_of, layout_break}
 use Rattle.ref_rewrite.specs.Breaks.{rewrite_break}
 use Rattle.ref_rewrite.specs.Planned.{AreSplitRead, words_with}
@@ -36,7 +35,7 @@ use Rattle.ref_rewrite.proofs.SpacedLaws.{words_spaced}
 use Rattle.load_model.proofs.LoadedWords.{IsReadImage}
 use Rattle.load_model.proofs.RuledWords.{HasStreams, read_image}
 use Rattle.load_model.proofs.SoundApart.{sound_apart}
-use Rattle.load_model.proofs.WordCases.{IsIn, IsOf, IsImageOf, in_first, in_rest, in_cases, in_none, in_either, in_map, of_map, of_filter, all_in, other_word}
+use Rattle.load_model.proofs.WordCases.{IsIn, IsOf, IsImageOf, in_first, in_rest, in_cases, in_none, in_either, in_map, of_map, all_in, other_word, IsOther, other_of, IsBoundPointer, IsFreePointer, pointer_kinds}
 
 -- ---- a set that was read and laid out, and that breaks no rule on where its words lead
 
@@ -72,18 +71,6 @@ one_of set k i given image =
 
 -- ---- its pointers
 
--- a word that is bound, and a rebase that isn't
-pub record IsBoundPointer (set : ImageSet) (k : ℕ) (s : StreamLists) (w : PlacedWord) : Type 0 where
-  pub bind : BoundWord
-  pub there : IsIn s.binds bind
-  pub is : w ≡ placed_bind set k bind
-
-pub record IsFreePointer (k : ℕ) (i : Img) (s : StreamLists) (w : PlacedWord) : Type 0 where
-  pub place : Location
-  pub there : IsIn s.rebases place
-  pub free : is_bound s.binds place.address ≡ false
-  pub is : w ≡ rebased_word k i.segments (pointer_at s.references) place
-
 in_put : (w v : PlacedWord) (ws : List PlacedWord) → IsIn (put_word w ws) v → (w ≡ v) ⊎ IsIn ws v
 in_put w v [] there = in_cases w [] v there
 in_put w v (u ∷ us) there =
@@ -109,24 +96,9 @@ pub pointers_are : (set : ImageSet) (k : ℕ) (i : Img) (s : StreamLists) → Is
 unfolding pointers_of
 pointers_are set k i s of = ap₂ (λ (a : Option Img) (b : Option StreamLists). all_pointers set k (segments_in a) (streams_in b)) of.image_is of.streams_are
 
-free_yes : (b : Bool) → not b ≡ true → b ≡ false
-free_yes true is = absurd (cc)
-free_yes false is = refl
-
 pub pointer_cases : (set : ImageSet) (k : ℕ) (i : Img) (s : StreamLists) (w : PlacedWord) → IsImageOf set k i s → IsIn (ordered_pointers set k) w → IsBoundPointer set k s w ⊎ IsFreePointer k i s w
 unfolding ordered_pointers
-pointer_cases set k i s w of there =
-    let all : IsIn (all_pointers set k i.segments s) w = subst (λ (ws : List PlacedWord). IsIn ws w) (pointers_are set k i s of) (in_order (pointers_of set k) w there) in
-    elim (in_either (map (placed_bind set k) s.binds) (rebased_words k i.segments (is_bound s.binds) (pointer_at s.references) s.rebases) w all) [
-      | inl bound ↦
-          let b : IsOf (placed_bind set k) s.binds w = of_map (placed_bind set k) s.binds w bound in
-          inl (record { bind = b.from; there = b.there; is = b.is })
-      | inr rebased ↦
-          let kept : List Location = filter (is_free (is_bound s.binds)) s.rebases in
-          let r : IsOf (rebased_word k i.segments (pointer_at s.references)) kept w = of_map (rebased_word k i.segments (pointer_at s.references)) kept w rebased in
-          let f = of_filter (is_free (is_bound s.binds)) s.rebases r.from r.there in
-          inr (record { place = r.from; there = f.0; free = free_yes (is_bound s.binds r.from.address) f.1; is = r.is })
-    ]
+pointer_cases set k i s w of there = pointer_kinds set k i s w (subst (λ (ws : List PlacedWord). IsIn ws w) (pointers_are set k i s of) (in_order (pointers_of set k) w there))
 
 -- each stands where a rebase or a bind does
 pointer_place : (set : ImageSet) (k : ℕ) (i : Img) (s : StreamLists) (w : PlacedWord) → IsImageOf set k i s → IsIn (ordered_pointers set k) w → IsIn s.rebases w.at ⊎ IsIn (places_of s.binds) w.at
@@ -173,12 +145,6 @@ pub record IsPointer (set : ImageSet) (k : ℕ) (w : Word) : Type 0 where
   pub there : IsIn (ordered_pointers set k) pointer
   pub is : w ≡ pointer_word pointer
 
-pub record IsOther (k : ℕ) (i : Img) (s : StreamLists) (w : Word) : Type 0 where
-  pub reference : Reference
-  pub there : IsIn s.references reference
-  pub other : is_pointer reference.kind ≡ false
-  pub is : w ≡ other_word k i reference
-
 abbrev pub image_words : ImageSet → ℕ → Img → StreamLists → List Word
 image_words set k i s = words_with k i s (ordered_pointers set k)
 
@@ -188,10 +154,7 @@ word_kinds set k i s w there =
     let others : List Reference = filter is_no_pointer s.references in
     elim (in_either (map pointer_word placed) (map (other_word k i) others) w there) [
       | inl pointer ↦ let p : IsOf pointer_word placed w = of_map pointer_word placed w pointer in inl (record { pointer = p.from; there = p.there; is = p.is })
-      | inr other ↦
-          let r : IsOf (other_word k i) others w = of_map (other_word k i) others w other in
-          let f = of_filter is_no_pointer s.references r.from r.there in
-          inr (record { reference = r.from; there = f.0; other = free_yes (is_pointer r.from.kind) f.1; is = r.is })
+      | inr other ↦ inr (other_of k i s w other)
     ]
 
 pub word_stands : (set : ImageSet) (k : ℕ) (i : Img) (s : StreamLists) (w : Word) → IsOne set k i s → IsIn (image_words set k i s) w → Stands i w
@@ -295,8 +258,7 @@ words_far set k i s one =
     (references_far k i others (AllPairs-filter (λ (r q : Reference). meets r q ≡ false) is_no_pointer s.references are.apart))
     (λ v w in_v in_w.
     let p : IsOf pointer_word placed v = of_map pointer_word placed v in_v in
-    let r : IsOf (other_word k i) others w = of_map (other_word k i) others w in_w in
-    let f = of_filter is_no_pointer s.references r.from r.there in
-    let none : strays s.rebases (places_of s.binds) r.from ≡ false = all_in (λ (q : Reference). strays s.rebases (places_of s.binds) q ≡ false) s.references r.from are.off_words f.0 in
+    let r : IsOther k i s w = other_of k i s w in_w in
+    let none : strays s.rebases (places_of s.binds) r.reference ≡ false = all_in (λ (q : Reference). strays s.rebases (places_of s.binds) q ≡ false) s.references r.reference are.off_words r.there in
     subst (λ (x : Word). Far x w) (sym p.is) (subst (λ (x : Word). Far (pointer_word p.from) x) (sym r.is)
-    (pointer_far set k i s p.from r.from one.read.of p.there (free_yes (is_pointer r.from.kind) f.1) none)))
+    (pointer_far set k i s p.from r.reference one.read.of p.there r.other none)))

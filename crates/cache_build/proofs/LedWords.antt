@@ -1,12 +1,8 @@
 -- The numbers of words lead to their targets wherever the cache is mapped: a pointer's is raised by the slide, and both ends of a difference move alike.
-use Rattle.std.proofs.Common.{◌≡◌, ◌<◌, ℕ, zero, suc, ◌+◌, ◌^◌, Bool, true, false, not, ◌&&◌, Option, Some, None, List, [], ◌∷◌, refl, sym, ap, ap₂, ◌∙◌, subst, arith, inl, inr}
-use Rattle.std.specs.Prelude.{slice_get, option_map, position}
+use Rattle.std.proofs.Common.{◌≡◌, ℕ, ◌+◌, Bool, true, false, not, ◌&&◌, Option, Some, None, List, refl, sym, ap, ap₂, ◌∙◌, arith}
+use Rattle.std.specs.Prelude.{slice_get, position}
 use Rattle.std.specs.List.{enumerate_from}
-use Rattle.std.specs.Option.{option_or}
-use Rattle.dsc_base.specs.declared.fault.Site.{Site}
-use Rattle.dsc_base.specs.declared.fault.Break.{Break}
 use Rattle.dsc_base.specs.declared.rule.Rule.TheVariants.{DeltaOutOfRange, OffsetOutOfRange}
-use Rattle.dsc_base.specs.Refusals.{in_image, in_each}
 use Rattle.macho_image.specs.Records.{Seg, Img}
 use Rattle.macho_image.specs.Places.{wrap}
 use Rattle.macho_image.specs.Segments.{segments_in}
@@ -19,15 +15,14 @@ use Rattle.prebind.specs.declared.resolved.WordTarget.{WordTarget}
 use Rattle.prebind.specs.declared.resolved.WordTarget.TheVariants.{Place, Constant}
 use Rattle.prebind.specs.Sets.{ImageSet}
 use Rattle.prebind.specs.Numbers.{Starts, led_to, LeadsTo, fits}
-use Rattle.prebind.specs.Words.{Word, streams_at, sections_in, reference_word}
+use Rattle.prebind.specs.Words.{Word, streams_at, sections_in}
 use Rattle.cache_layout.specs.Layouts.{Laid}
-use Rattle.load_model.proofs.WordCases.{IsIn, in_cases, in_none, other_word}
-use Rattle.load_model.proofs.RuledWords.{position_none}
+use Rattle.load_model.proofs.WordCases.{IsIn, other_word}
+use Rattle.load_model.proofs.RuledWords.{position_none, unbroken_each}
 use Rattle.load_model.proofs.LoadedReferences.{kind_leads}
 use Rattle.ref_rewrite.specs.Moving.{new_starts, new_address, header_move, has_bytes, can_lead}
 use Rattle.ref_rewrite.specs.Breaks.{is_delta, is_offset, is_out_of_range, out_of_range, delta_break, offset_break, image_break, rewrite_break}
 use Rattle.cache_build.proofs.Memberships.{in_enumerated}
-use Rattle.cache_build.proofs.SetWords.{IsPointer, IsReferred}
 
 -- ---- raised by a slide
 
@@ -53,24 +48,6 @@ reference_slid starts slid location header slide value k g distance kind other l
 
 -- ---- what rules 151 and 152 say
 
-each_none : {X : Type 0} (breaks : X → Option Site) (n : ℕ) (xs : List X) (x : X) → in_each breaks n xs ≡ None → IsIn xs x → breaks x ≡ None
-unfolding in_each
-each_none breaks n [] x none there = absurd (in_none x there)
-each_none {X = X} breaks n (z ∷ zs) x none there =
-    let two = split (option_map (in_image n) (breaks z)) (in_each breaks (n + 1) zs) none in
-    elim (in_cases z zs x there) [
-      | inl is ↦ subst (λ (w : X). breaks w ≡ None) is (no_site (breaks z) two.0)
-      | inr later ↦ each_none breaks (n + 1) zs x two.1 later
-    ]
-  where
-    split : (a b : Option Break) → option_or a b ≡ None → (a ≡ None) × (b ≡ None)
-    split None b is = (refl, is)
-    split (Some x) b is = absurd (cc)
-
-    no_site : (o : Option Site) → option_map {T = Site} {U = Break} (in_image n) o ≡ None → o ≡ None
-    no_site None is = refl
-    no_site (Some s) is = absurd (cc)
-
 abbrev ranged : (RefKind → Bool) → Laid → ImageSet → ℕ → Option Img → Option ℕ
 ranged kinds l set k o = position (is_out_of_range kinds l k (sections_in o) (segments_in o)) (streams_at set k).references
 
@@ -81,7 +58,7 @@ record InRange (l : Laid) (set : ImageSet) (k : ℕ) (i : Img) : Type 0 where
 in_range : (l : Laid) (set : ImageSet) (k : ℕ) (i : Img) → rewrite_break l set ≡ None → slice_get set.images k ≡ Some i → InRange l set k i
 unfolding rewrite_break image_break delta_break offset_break
 in_range l set k i none image =
-    let own = each_none (λ (p : ℕ × Img). image_break l set p.0) 0 (enumerate_from 0 set.images) (k, i) none (in_enumerated set.images k i image) in
+    let own = unbroken_each (λ (p : ℕ × Img). image_break l set p.0) 0 (enumerate_from 0 set.images) (k, i) none (in_enumerated set.images k i image) in
     let one = or_none (delta_break l set k) _ own in
     let two = or_none (offset_break l set k) _ one.1 in
     record {

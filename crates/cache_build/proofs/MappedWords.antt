@@ -1,9 +1,8 @@
 -- Each word of a set leads to its target once the cache is mapped.
-use Rattle.std.proofs.Common.{◌≡◌, ◌≤◌, ◌<◌, ℕ, zero, suc, ◌+◌, ◌-◌, ◌*◌, ◌%◌, ◌^◌, Bool, true, false, Option, Some, None, List, [], ◌∷◌, length, get_or, refl, sym, ap, ap₂, ◌∙◌, subst, arith, inl, inr, cond}
-use Rattle.std.specs.Prelude.{slice_get, slice_index, slice_index_or, find}
-use Rattle.std.proofs.lemmas.Bool.{cond-true, cond-false, cases_Bool, false≢true}
+use Rattle.std.proofs.Common.{◌≡◌, ◌≤◌, ◌<◌, ℕ, suc, ◌+◌, ◌-◌, ◌*◌, ◌%◌, ◌^◌, true, false, Option, Some, None, List, [], ◌∷◌, length, get_or, refl, sym, ap, ◌∙◌, subst, arith, inl, inr}
+use Rattle.std.specs.Prelude.{slice_get, slice_index_or, find}
+use Rattle.std.proofs.lemmas.Bool.{cond-true, cond-false}
 use Rattle.std.proofs.lemmas.Option.{same_Some, slice_get_within, get_or_from_slice_get, slice_get-get_or}
-use Rattle.dsc_base.specs.Numbers.{little_bytes}
 use Rattle.dsc_base.specs.Edits.{AllFit, IsAmong}
 use Rattle.dsc_base.specs.Region.{region_start, paged}
 use Rattle.dsc_base.specs.declared.edits.Edit.{Edit}
@@ -29,7 +28,6 @@ use Rattle.cache_layout.proofs.SoundLaws.{sound_linkedit}
 use Rattle.split_info.specs.declared.reference.RefKind.{RefKind}
 use Rattle.split_info.specs.declared.reference.RefKind.TheVariants.{Pointer64, Delta32, Delta64, ImageOff32}
 use Rattle.split_info.specs.References.{width_of}
-use Rattle.split_info.specs.Overlap.{is_pointer}
 use Rattle.prebind.specs.declared.resolved.WordTarget.{WordTarget}
 use Rattle.prebind.specs.declared.resolved.WordTarget.TheVariants.{Place, Constant}
 use Rattle.prebind.specs.Sets.{image_set}
@@ -41,19 +39,19 @@ use Rattle.load_model.specs.Corresponds.{Leads, mapped_starts, mapped_side}
 use Rattle.load_model.proofs.NumberLaws.{address_on}
 use Rattle.load_model.proofs.WordCases.{IsIn}
 use Rattle.load_model.proofs.LoadedReferences.{width_holds}
-use Rattle.linkedit_merge.specs.Linkedit.{linkedit_start, linkedit_size}
-use Rattle.ref_rewrite.specs.Moving.{new_starts, new_address, header_move, move_or_none, new_number, can_lead}
+use Rattle.linkedit_merge.specs.Linkedit.{linkedit_start}
+use Rattle.ref_rewrite.specs.Moving.{new_starts, new_address, header_move, move_or_none, can_lead}
 use Rattle.ref_rewrite.specs.Breaks.{rewrite_break}
 use Rattle.ref_rewrite.specs.Planned.{leads_to_place}
 use Rattle.ref_rewrite.proofs.LeadLaws.{new_number_leads}
 use Rattle.ref_rewrite.proofs.HomeLaws.{two_segments}
 use Rattle.ref_rewrite.proofs.FitLaws.{segment_there}
 use Rattle.cache_build.specs.Cache.{no_spots, cache_of}
-use Rattle.cache_build.proofs.BuildableSets.{IsAccepted, IsBuildable, set_edits, set_slide, set_start, set_span, set_spots, slid_of, slid_value}
+use Rattle.cache_build.proofs.BuildableSets.{IsAccepted, IsBuildable, set_edits, set_slide, set_span, set_spots, slid_of, slid_value}
 use Rattle.cache_build.proofs.CacheFacts.{HasEdits, IsCache, moved_in, IsCachedImage}
 use Rattle.cache_build.proofs.MovedLaws.{IsMovedSection, moved_section_at, moved_start}
-use Rattle.cache_build.proofs.SetWords.{SetWord, set_words, edit_at, edit_among, IsPointer, IsReferred, at_cases, IsOfSet, of_set}
-use Rattle.cache_build.proofs.CachedWords.{Stands, word_stands_at, address_is, image_sound}
+use Rattle.cache_build.proofs.SetWords.{SetWord, set_words, edit_at, edit_among, at_cases, IsOfSet, of_set}
+use Rattle.cache_build.proofs.CachedWords.{Stands, word_stands_at, address_is}
 use Rattle.cache_build.proofs.ChainedWords.{IsChained, is_chained_at, chained_yes, chained_no}
 use Rattle.cache_build.proofs.LedWords.{pointer_slid, reference_slid, reference_can, pointer_can}
 use Rattle.cache_build.proofs.TargetPlaces.{IsOwn, LeadsToOwn, word_own}

@@ -1,9 +1,8 @@
 -- What stands in lists that are joined or numbered, and edits of a list that share a byte.
-use Rattle.std.proofs.Common.{◌≡◌, ◌≤◌, ◌<◌, ◌⊎◌, ℕ, zero, suc, ◌+◌, ◌-◌, Bool, true, false, ◌||◌, Option, Some, List, [], ◌∷◌, ◌++◌, map, refl, sym, ap, ◌∙◌, subst, arith, inl, inr}
+use Rattle.std.proofs.Common.{◌≡◌, ◌≤◌, ◌<◌, ◌⊎◌, ℕ, zero, suc, ◌+◌, Bool, true, false, ◌||◌, Some, List, [], ◌∷◌, map, refl, sym, ap, ◌∙◌, subst, arith, inl, inr}
 use Rattle.std.specs.Prelude.{slice_get}
 use Rattle.std.specs.List.{flat_map, enumerate_from, list_any}
 use Rattle.std.proofs.lemmas.Bool.{cases_Bool, or_left, or_right}
-use Rattle.std.proofs.lemmas.Option.{same_Some}
 use Rattle.dsc_base.specs.declared.edits.Edit.{Edit}
 use Rattle.dsc_base.specs.Edits.{AllApart, ApartFrom, IsAmong}
 use Rattle.load_model.proofs.WordCases.{IsIn, in_first, in_rest, in_cases, in_none, in_left, in_right, in_either}
@@ -47,17 +46,16 @@ of_numbered {X = X} n (x ∷ xs) p there = elim (in_cases (n, x) (enumerate_from
       record { index = suc rest.index; number = omega (arith, rest.number); found = rest.found }
 ]
 
-pub in_numbered : {X : Type 0} (n : ℕ) (xs : List X) (k : ℕ) (x : X) → slice_get xs k ≡ Some x → IsIn (enumerate_from n xs) (n + k, x)
-in_numbered n [] k x got = absurd (cc)
-in_numbered {X = X} n (y ∷ ys) zero x got =
-    let first : IsIn (enumerate_from n (y ∷ ys)) (n, x) = subst (λ (z : X). IsIn ((n, y) ∷ enumerate_from (n + 1) ys) (n, z)) (same_Some y x got) (in_first (n, y) (enumerate_from (n + 1) ys)) in
-    subst (λ (m : ℕ). IsIn (enumerate_from n (y ∷ ys)) (m, x)) (let e : n ≡ n + 0 = omega arith in e) first
-in_numbered {X = X} n (y ∷ ys) (suc k) x got =
-    subst (λ (m : ℕ). IsIn (enumerate_from n (y ∷ ys)) (m, x)) (let e : n + 1 + k ≡ n + suc k = omega arith in e)
-    (in_rest (n, y) (enumerate_from (n + 1) ys) (n + 1 + k, x) (in_numbered (n + 1) ys k x got))
+pub in_numbered : {X : Type 0} (n k m : ℕ) (xs : List X) (x : X) → slice_get xs k ≡ Some x → m ≡ n + k → IsIn (enumerate_from n xs) (m, x)
+in_numbered n k m [] x got at = absurd (cc)
+in_numbered {X = X} n zero m (y ∷ ys) x got at =
+    let item : y ≡ x = cc in
+    let number : n ≡ m = omega (arith, at) in
+    subst (λ (z : X). IsIn ((n, y) ∷ enumerate_from (n + 1) ys) (m, z)) item (subst (λ (j : ℕ). IsIn ((n, y) ∷ enumerate_from (n + 1) ys) (j, y)) number (in_first (n, y) (enumerate_from (n + 1) ys)))
+in_numbered n (suc k) m (y ∷ ys) x got at = in_rest (n, y) (enumerate_from (n + 1) ys) (m, x) (in_numbered (n + 1) k m ys x got (omega (arith, at)))
 
 pub in_enumerated : {X : Type 0} (xs : List X) (k : ℕ) (x : X) → slice_get xs k ≡ Some x → IsIn (enumerate_from 0 xs) (k, x)
-in_enumerated {X = X} xs k x got = subst (λ (n : ℕ). IsIn (enumerate_from 0 xs) (n, x)) (let e : 0 + k ≡ k = omega arith in e) (in_numbered 0 xs k x got)
+in_enumerated xs k x got = in_numbered 0 k k xs x got (omega arith)
 
 -- ---- tests
 

@@ -2,7 +2,7 @@
 use Rattle.std.proofs.Common.{◌≡◌, ◌≤◌, ◌<◌, ◌⊎◌, ℕ, zero, suc, ◌+◌, ◌-◌, false, Some, List, [], ◌++◌, drop, length, get_or, replicate, refl, sym, ap, ap₂, ◌∙◌, subst, arith, inl, inr}
 use Rattle.std.specs.Prelude.{slice_get, slice_index_or}
 use Rattle.std.proofs.lemmas.Bool.{cases_lt}
-use Rattle.std.proofs.lemmas.List.{get_or_default, get_or-append_right, get_or-drop, get_or-replicate, get_or_past, length-replicate, length-drop}
+use Rattle.std.proofs.lemmas.List.{get_or_default, get_or-append_right, get_or-drop, get_or-replicate, get_or_past, length-replicate}
 use Rattle.std.proofs.lemmas.Option.{same_Some, slice_get_read}
 use Rattle.std.proofs.Math.ListN.{get_or-append}
 use Rattle.dsc_base.specs.Region.{region_start, paged}
@@ -27,13 +27,13 @@ use Rattle.load_model.specs.Corresponds.{InWord}
 use Rattle.load_model.proofs.LoadingLaws.{in_memory-byte}
 use Rattle.load_model.proofs.LoadedBytes.{IsLoadedByte}
 use Rattle.load_model.proofs.WordCases.{IsIn, IsOf, word_in, covered}
-use Rattle.load_model.proofs.WordPlaces.{StandsIn, one_section}
-use Rattle.ref_rewrite.specs.Pages.{bytes_with, pages_of}
+use Rattle.load_model.proofs.WordPlaces.{one_section}
+use Rattle.ref_rewrite.specs.Pages.{pages_of}
 use Rattle.ref_rewrite.proofs.HomeLaws.{section_owned}
 use Rattle.ref_rewrite.proofs.HeaderLaws.{section_behind}
 use Rattle.ref_rewrite.proofs.FitLaws.{segment_there}
 use Rattle.cache_build.specs.Cache.{no_spots, header_of, cache_of}
-use Rattle.cache_build.proofs.BuildableSets.{IsAccepted, set_edits, set_span, set_spots, plain_of, slid_of}
+use Rattle.cache_build.proofs.BuildableSets.{IsAccepted, set_edits, set_span, set_spots, slid_of}
 use Rattle.cache_build.proofs.CacheFacts.{moved_in}
 use Rattle.cache_build.proofs.MovedLaws.{IsMovedSection, moved_section_at}
 use Rattle.cache_build.proofs.SetWords.{SetWord, set_words, edit_at, among_edits, IsOfSet, of_set}

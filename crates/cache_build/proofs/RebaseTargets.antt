@@ -1,25 +1,20 @@
 -- Where a rebase that isn't bound leads: into a segment of its image other than `__LINKEDIT`, or to its end.
-use Rattle.std.proofs.Common.{◌≡◌, ◌≤◌, ◌<◌, ℕ, ◌+◌, ◌-◌, Bool, true, false, not, ◌&&◌, ◌||◌, nat_eq, nat_lt, Option, Some, None, List, [], ◌∷◌, length, refl, sym, ap, ap₂, ◌∙◌, arith, inl, inr}
+use Rattle.std.proofs.Common.{◌≡◌, ◌≤◌, ◌<◌, ℕ, ◌+◌, ◌-◌, Bool, true, false, ◌&&◌, ◌||◌, nat_eq, nat_lt, Option, Some, None, List, [], ◌∷◌, length, refl, sym, ap, ◌∙◌, arith, inl, inr}
 use Rattle.std.specs.Prelude.{slice_get, option_map}
 use Rattle.std.specs.Option.{option_and_then}
 use Rattle.std.proofs.lemmas.Bool.{cases_Bool, cond-true, cond-false}
 use Rattle.std.proofs.lemmas.Bool.Decides.{nat_tests}
 use Rattle.std.proofs.lemmas.Option.{same_Some, slice_get_within, get_or_from_slice_get}
-use Rattle.dsc_base.specs.declared.fault.Site.{Site}
-use Rattle.dsc_base.specs.declared.fault.Break.{Break}
-use Rattle.dsc_base.specs.declared.rule.Rule.TheVariants.{PointsIntoLinkedit, RebaseOutside, PointerOutOfRange}
-use Rattle.dsc_base.specs.Refusals.{in_image}
 use Rattle.macho_image.specs.Records.{Seg, Img}
 use Rattle.macho_image.specs.Rules.{is_linkedit_segment}
 use Rattle.macho_image.specs.Breaks.{IsSound}
 use Rattle.macho_image.specs.declared.place.Location.{Location}
 use Rattle.macho_image.specs.declared.places.segment_index.Inside.{Inside}
 use Rattle.macho_image.specs.Places.{above, numbered_section}
-use Rattle.macho_image.specs.Segments.{start_of, segments_in, value_of, inside}
+use Rattle.macho_image.specs.Segments.{start_of, value_of, inside}
 use Rattle.macho_image.proofs.AboveLaws.{above_plain}
 use Rattle.macho_image.proofs.HeaderLaws.{text_position}
 use Rattle.macho_image.proofs.SegmentLaws.{inside_some}
-use Rattle.macho_image.proofs.Unbroken.{or_none, broken_none}
 use Rattle.split_info.specs.declared.reference.Reference.{Reference}
 use Rattle.split_info.specs.References.{section_numbered, segment_section, header_section}
 use Rattle.split_info.specs.Overlap.{is_pointer}
@@ -29,14 +24,14 @@ use Rattle.prebind.specs.declared.resolved.WordTarget.TheVariants.{Place, Consta
 use Rattle.prebind.specs.Sets.{StreamLists, ImageSet}
 use Rattle.prebind.specs.Places.{is_linkedit_at}
 use Rattle.prebind.specs.Targets.{pointer_at, value_place, rebase_target}
-use Rattle.prebind.specs.WordRules.{breaks_135, breaks_136, breaks_137, leads_into_linkedit, leads_nowhere, is_out_of, rebases_broken, symbol_break, linkedit_pointer_break, stray_pointer_break, recorded_pointer_break, place_break}
-use Rattle.prebind.specs.Words.{is_bound, streams_in}
+use Rattle.prebind.specs.WordRules.{breaks_135, breaks_136, breaks_137, leads_into_linkedit, leads_nowhere, is_out_of, place_break}
+use Rattle.prebind.specs.Words.{is_bound}
 use Rattle.cache_layout.proofs.SoundLaws.{sound_linkedit}
 use Rattle.cache_layout.proofs.SpaceLaws.{sound_space}
 use Rattle.ref_rewrite.proofs.FitLaws.{references_accepted}
 use Rattle.ref_rewrite.proofs.HomeLaws.{section_owned, two_segments}
-use Rattle.load_model.proofs.RuledWords.{position_none}
-use Rattle.load_model.proofs.WordCases.{IsIn, IsImageOf, in_first, in_rest, all_in}
+use Rattle.load_model.proofs.RuledWords.{kept, KeepsRules, keeps_rules}
+use Rattle.load_model.proofs.WordCases.{IsIn, in_first, in_rest, all_in}
 use Rattle.cache_build.proofs.ImageWords.{IsOne}
 
 pub record LeadsInto (k : ℕ) (i : Img) (target : WordTarget) : Type 0 where
@@ -64,12 +59,12 @@ value_leads k value i (Some p) is linkedit nowhere =
     }
 
 -- where one is recorded: the reference that records it
-record IsRecorded (rs : List Reference) (g : ℕ) : Type 0 where
-  reference : Reference
-  there : IsIn rs reference
-  to : reference.to_segment ≡ g
+pub record IsRecorded (rs : List Reference) (g : ℕ) : Type 0 where
+  pub reference : Reference
+  pub there : IsIn rs reference
+  pub to : reference.to_segment ≡ g
 
-recorded : (rs : List Reference) (address g : ℕ) → pointer_at rs address ≡ Some g → IsRecorded rs g
+pub recorded : (rs : List Reference) (address g : ℕ) → pointer_at rs address ≡ Some g → IsRecorded rs g
 recorded [] address g is = absurd (cc)
 recorded (r ∷ rs) address g is = elim (cases_Bool (is_pointer r.kind && nat_eq r.from address)) [
   | inl here ↦
@@ -131,42 +126,6 @@ recorded_leads set k g value i s (Some t) one by is out =
       fits = omega (arith, high);
       is = ap (λ (x : Option Seg). Place k g (above (start_of x) value)) is ∙ ap (λ (d : ℕ). Place k g d) (above_plain t.vmaddr value low (omega (arith, high, space.1)));
     }
-
--- the rules on where a rebase leads
-pub no_site : (k : ℕ) (o : Option Site) → option_map {T = Site} {U = Break} (in_image k) o ≡ None → o ≡ None
-no_site k None none = refl
-no_site k (Some s) none = absurd (cc)
-
-abbrev broken_by : (List Seg → ℕ → Option ℕ → Bool) → Option Img → Option StreamLists → Option ℕ
-broken_by breaks i s = rebases_broken breaks (segments_in i) (streams_in s)
-
-record KeepsRules (i : Img) (s : StreamLists) : Type 0 where
-  linkedit : rebases_broken breaks_135 i.segments s ≡ None
-  nowhere : rebases_broken breaks_136 i.segments s ≡ None
-  out : rebases_broken breaks_137 i.segments s ≡ None
-
-keeps_rules : (set : ImageSet) (k : ℕ) (i : Img) (s : StreamLists) → IsImageOf set k i s → place_break set k ≡ None → KeepsRules i s
-unfolding place_break linkedit_pointer_break stray_pointer_break recorded_pointer_break
-keeps_rules set k i s of none =
-    let one = or_none (symbol_break set k) _ (no_site k _ none) in
-    let two = or_none (linkedit_pointer_break set k) _ one.1 in
-    let three = or_none (stray_pointer_break set k) _ two.1 in
-    let four = or_none (recorded_pointer_break set k) _ three.1 in
-    record {
-      linkedit = sym (ap₂ (broken_by breaks_135) of.image_is of.streams_are) ∙ broken_none PointsIntoLinkedit _ two.0;
-      nowhere = sym (ap₂ (broken_by breaks_136) of.image_is of.streams_are) ∙ broken_none RebaseOutside _ three.0;
-      out = sym (ap₂ (broken_by breaks_137) of.image_is of.streams_are) ∙ broken_none PointerOutOfRange _ four.0;
-    }
-
-kept : (breaks : List Seg → ℕ → Option ℕ → Bool) (ss : List Seg) (s : StreamLists) (l : Location) → rebases_broken breaks ss s ≡ None → IsIn s.rebases l → is_bound s.binds l.address ≡ false
-    → breaks ss (value_of ss l) (pointer_at s.references l.address) ≡ false
-kept breaks ss s l none there free =
-    both (is_bound s.binds l.address) (breaks ss (value_of ss l) (pointer_at s.references l.address)) free
-    (position_none (λ (m : Location). not (is_bound s.binds m.address) && breaks ss (value_of ss m) (pointer_at s.references m.address)) s.rebases l none there)
-  where
-    both : (b c : Bool) → b ≡ false → not b && c ≡ false → c ≡ false
-    both true c free is = absurd (cc)
-    both false c free is = is
 
 pub rebase_leads : (set : ImageSet) (k : ℕ) (i : Img) (s : StreamLists) (l : Location) → IsOne set k i s → place_break set k ≡ None → IsIn s.rebases l → is_bound s.binds l.address ≡ false
     → LeadsInto k i (rebase_target k i.segments (value_of i.segments l) (pointer_at s.references l.address))

@@ -1,18 +1,17 @@
 -- The words of all images of a set, each with its image: their edits are those of the cache, and no two share a byte.
-use Rattle.std.proofs.Common.{◌≡◌, ◌≤◌, ◌<◌, ◌⊎◌, ℕ, zero, suc, ◌+◌, Bool, true, false, not, Option, Some, List, [], ◌∷◌, ◌++◌, map, length, refl, sym, ap, ap₂, ◌∙◌, subst, arith, inl, inr}
+use Rattle.std.proofs.Common.{◌≡◌, ◌⊎◌, ℕ, Bool, true, false, not, Option, Some, List, [], ◌∷◌, ◌++◌, map, refl, sym, ap, ap₂, ◌∙◌, subst, arith, inl, inr}
 use Rattle.std.specs.Prelude.{slice_get, nat_le, filter}
 use Rattle.std.specs.List.{flat_map, enumerate_from}
 use Rattle.std.proofs.lemmas.Bool.{cases_Bool, cond-true, cond-false}
 use Rattle.std.proofs.lemmas.List.{map-append}
 use Rattle.dsc_base.specs.declared.edits.Edit.{Edit}
 use Rattle.dsc_base.specs.Edits.{AllApart, IsAmong}
-use Rattle.macho_image.specs.Records.{Seg, Img}
-use Rattle.macho_image.specs.declared.section.Section.{Section}
+use Rattle.macho_image.specs.Records.{Img}
 use Rattle.macho_image.specs.Segments.{segments_in}
 use Rattle.split_info.specs.declared.reference.Reference.{Reference}
 use Rattle.split_info.specs.Overlap.{is_pointer}
 use Rattle.prebind.specs.declared.resolved.PlacedWord.{PlacedWord}
-use Rattle.prebind.specs.Sets.{StreamLists, ImageSet, image_set}
+use Rattle.prebind.specs.Sets.{ImageSet, image_set}
 use Rattle.prebind.specs.Words.{Word, streams_at, pointers_of, pointer_word, reference_word, is_no_pointer, sections_in, words_of, put_word, in_word_order, ordered_pointers}
 use Rattle.cache_layout.specs.Layouts.{Laid, layout_of}
 use Rattle.load_model.specs.Corresponds.{IsWordOf}

@@ -1,12 +1,10 @@
 -- The place to which a word leads is in a segment other than `__LINKEDIT`.
-use Rattle.std.proofs.Common.{◌≡◌, ℕ, zero, suc, ◌+◌, ◌-◌, ◌<◌, Bool, true, false, ◌&&◌, cond, Option, Some, None, List, [], ◌∷◌, ◌++◌, length, get_or, refl, sym, ap, ◌∙◌, subst, arith, inl, inr, if◌then◌else◌}
+use Rattle.std.proofs.Common.{◌≡◌, ℕ, zero, suc, ◌+◌, ◌-◌, ◌<◌, Bool, true, false, cond, Option, Some, None, List, [], ◌∷◌, ◌++◌, length, get_or, refl, sym, ap, ◌∙◌, subst, arith, inl, inr, if◌then◌else◌}
 use Rattle.std.specs.Prelude.{slice_get, nat_eq, position, option_map, ℤ}
 use Rattle.std.specs.Cmp.Lexicographic.{pointwise}
 use Rattle.std.proofs.lemmas.Bool.{cases_Bool, cond-true, cond-false}
 use Rattle.std.proofs.lemmas.Option.{same_Some, slice_get-get_or, get_or_from_slice_get}
-use Rattle.std.proofs.lemmas.List.Quantifiers.{position-Some}
 use Rattle.dsc_base.specs.Refusals.{broken, in_image}
-use Rattle.dsc_base.specs.declared.fault.Site.{Site}
 use Rattle.dsc_base.specs.declared.fault.Break.{Break}
 use Rattle.dsc_base.specs.declared.rule.Rule.TheVariants.{ExportOutside}
 use Rattle.macho_image.specs.Records.{Seg, Img}
@@ -17,7 +15,6 @@ use Rattle.macho_image.specs.declared.place.Location.{Location}
 use Rattle.macho_image.specs.declared.places.segment_index.Inside.{Inside}
 use Rattle.macho_image.specs.Places.{numbered_section}
 use Rattle.macho_image.specs.Segments.{inside, segments_in, segments_at, is_text_segment, value_of}
-use Rattle.macho_image.proofs.Unbroken.{broken_none}
 use Rattle.export_trie.specs.declared.export.Export.{Export}
 use Rattle.export_trie.specs.declared.export.Target.{Target}
 use Rattle.export_trie.specs.declared.export.Target.TheVariants.{Offset, Absolute, Reexport}
@@ -28,7 +25,6 @@ use Rattle.dep_closure.specs.Linked.{dependency_at}
 use Rattle.split_info.specs.declared.reference.Reference.{Reference}
 use Rattle.split_info.specs.References.{segment_section, header_section, section_numbered, to_section}
 use Rattle.std.specs.Option.{option_and_then}
-use Rattle.split_info.specs.Overlap.{is_pointer}
 use Rattle.split_info.specs.Split.{IsReference}
 use Rattle.split_info.proofs.SoundSections.{IsInside, section_inside}
 use Rattle.prebind.specs.declared.resolved.Resolved.{Resolved}
@@ -38,8 +34,8 @@ use Rattle.prebind.specs.declared.resolved.WordTarget.TheVariants.{Place, Consta
 use Rattle.prebind.specs.Sets.{StreamLists, ImageSet}
 use Rattle.prebind.specs.Places.{address_of_export, exports_in, is_linkedit_at, is_stray, strays, export_break}
 use Rattle.prebind.specs.Agree.{HaveExportsInside}
-use Rattle.prebind.specs.Resolves.{Pair, is_met, Step, Ends, Reexports, first_exporting, place_of, export_place, found_step, dependency_step, step, next_name, after_step, resolves_after, export_count, resolves}
-use Rattle.prebind.specs.Targets.{added, bound_target, outcome_of, pointer_at, value_place, rebase_target, reference_target}
+use Rattle.prebind.specs.Resolves.{Pair, is_met, Step, Ends, Reexports, first_exporting, place_of, found_step, dependency_step, step, next_name, after_step, resolves_after, export_count, resolves}
+use Rattle.prebind.specs.Targets.{bound_target, outcome_of, pointer_at, value_place, rebase_target}
 use Rattle.prebind.specs.Words.{Word, words_of}
 use Rattle.prebind.proofs.ResolveLaws.{named_first}
 use Rattle.load_model.specs.Corresponds.{IsWordOf}
@@ -50,6 +46,7 @@ use Rattle.load_model.proofs.RuledWords.{position_none}
 use Rattle.macho_image.proofs.HeaderLaws.{text_position}
 use Rattle.ref_rewrite.proofs.HomeLaws.{two_segments, section_owned}
 use Rattle.cache_layout.proofs.SoundLaws.{sound_linkedit}
+use Rattle.cache_build.proofs.RebaseTargets.{IsRecorded, recorded}
 
 -- segment g of image k is one other than `__LINKEDIT`
 pub record IsOwn (images : List Img) (k g : ℕ) : Type 0 where
@@ -234,24 +231,6 @@ reference_own i sound rebases r is = extent_own i sound r.to_section r.to_segmen
 
 -- ---- where rebases lead
 
-record IsRecorded (rs : List Reference) (g : ℕ) : Type 0 where
-  reference : Reference
-  there : IsIn rs reference
-  leads : reference.to_segment ≡ g
-
-recorded : (rs : List Reference) (a g : ℕ) → pointer_at rs a ≡ Some g → IsRecorded rs g
-recorded [] a g is = absurd (cc)
-recorded (r ∷ rs) a g is = elim (cases_Bool (is_pointer r.kind && nat_eq r.from a)) [
-  | inl here ↦ record {
-    reference = r;
-    there = in_first r rs;
-    leads = same_Some r.to_segment g (sym (cond-true (is_pointer r.kind && nat_eq r.from a) (Some r.to_segment) (pointer_at rs a) here) ∙ is);
-  }
-  | inr later ↦
-      let rest : IsRecorded rs g = recorded rs a g (sym (cond-false (is_pointer r.kind && nat_eq r.from a) (Some r.to_segment) (pointer_at rs a) later) ∙ is) in
-      record { reference = rest.reference; there = in_rest r rs rest.reference rest.there; leads = rest.leads }
-]
-
 own_here : (images : List Img) (k g : ℕ) (i : Img) → slice_get images k ≡ Some i → HasOwn i.segments g → IsOwn images k g
 own_here images k g i image own = own_of images k g (Some i) image own
 
@@ -269,7 +248,7 @@ rebase_own : (images : List Img) (k value a : ℕ) (i : Img) (rs : List Referenc
 rebase_own images k value a i rs None image own is = value_own images k value i (inside i.segments value) image
 rebase_own images k value a i rs (Some g) image own is =
     let r : IsRecorded rs g = recorded rs a g is in
-    own_here images k g i image (subst (HasOwn i.segments) r.leads (own r.reference r.there))
+    own_here images k g i image (subst (HasOwn i.segments) r.to (own r.reference r.there))
 
 -- ---- each word
 

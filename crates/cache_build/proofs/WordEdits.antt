@@ -21,7 +21,8 @@ use Rattle.load_model.proofs.WordCases.{IsIn, IsOf, IsImageOf, in_first, in_rest
 use Rattle.cache_build.specs.Edits.{image_edits, edits_of}
 use Rattle.cache_build.proofs.AmongLaws.{IsOf as IsOfItem, among_of, among_given}
 use Rattle.cache_build.proofs.ImageWords.{IsReadSet, IsOne, one_of, Stands, word_stands, image_words, Far, AreFar, words_far}
-use Rattle.cache_build.proofs.JoinedEdits.{KeepApart, in_among, among_of_map, fit_each, apart_each, apart_joined}
+use Rattle.cache_build.proofs.Memberships.{in_among}
+use Rattle.cache_build.proofs.JoinedEdits.{KeepApart, among_of_map, fit_each, apart_each, apart_joined}
 use Rattle.cache_build.proofs.WordNumbers.{word_fits}
 
 -- ---- where an edit lies

@@ -1,11 +1,8 @@
 -- The numbers of words in a cache: each fits its word, and a pointer that leads to a place has one in the first 512 MiB of the region.
-use Rattle.std.proofs.Common.{◌≡◌, ◌≤◌, ◌<◌, ℕ, ◌+◌, ◌%◌, ◌^◌, true, false, nat_lt, Option, Some, None, List, [], ◌∷◌, map, refl, sym, ap, ◌∙◌, subst, arith, inl, inr}
-use Rattle.std.specs.Prelude.{ℤ, slice_get, option_map, position}
+use Rattle.std.proofs.Common.{◌≡◌, ◌≤◌, ◌<◌, ℕ, ◌+◌, ◌%◌, ◌^◌, true, false, nat_lt, Some, None, List, map, refl, sym, ap, ◌∙◌, subst, arith, inl, inr}
+use Rattle.std.specs.Prelude.{ℤ, slice_get, position}
 use Rattle.std.specs.List.{enumerate_from}
-use Rattle.dsc_base.specs.declared.fault.Site.{Site}
-use Rattle.dsc_base.specs.declared.fault.Break.{Break}
 use Rattle.dsc_base.specs.declared.rule.Rule.TheVariants.{BoundOutOfRange}
-use Rattle.dsc_base.specs.Refusals.{in_image, in_each}
 use Rattle.dsc_base.specs.Region.{region_start}
 use Rattle.macho_image.specs.Records.{Img}
 use Rattle.macho_image.specs.Places.{wrap, above}
@@ -32,29 +29,18 @@ use Rattle.ref_rewrite.specs.Breaks.{leads_beyond, delta_break, offset_break, bo
 use Rattle.ref_rewrite.specs.Moving.{new_starts, new_address, header_move, new_number}
 use Rattle.ref_rewrite.specs.Planned.{leads_to_place}
 use Rattle.ref_rewrite.proofs.FitLaws.{segment_there}
-use Rattle.load_model.proofs.RuledWords.{position_none}
-use Rattle.load_model.proofs.Unbroken.{neither}
-use Rattle.load_model.proofs.WordCases.{IsIn, in_cases, in_none, in_map}
+use Rattle.load_model.proofs.RuledWords.{position_none, unbroken_each}
+use Rattle.load_model.proofs.WordCases.{IsIn, in_map}
 use Rattle.cache_build.proofs.ImageWords.{IsReadSet, IsOne, pointer_cases, word_kinds, image_words}
-use Rattle.cache_build.proofs.JoinedEdits.{in_numbered}
-use Rattle.cache_build.proofs.RebaseTargets.{LeadsInto, rebase_leads, or_false, not_below, no_site}
+use Rattle.cache_build.proofs.Memberships.{in_enumerated}
+use Rattle.cache_build.proofs.RebaseTargets.{LeadsInto, rebase_leads, or_false, not_below}
 
 -- ---- a bound word leads into the cache, if it leads to a place
-
-each_none : {X : Type 0} (breaks : X → Option Site) (n : ℕ) (xs : List X) (x : X) → in_each breaks n xs ≡ None → IsIn xs x → breaks x ≡ None
-unfolding in_each
-each_none breaks n [] x none there = absurd (in_none x there)
-each_none {X} breaks n (y ∷ ys) x none there =
-    let two = neither (option_map {T = Site} {U = Break} (in_image n) (breaks y)) (in_each breaks (n + 1) ys) none in
-    elim (in_cases y ys x there) [
-      | inl is ↦ subst (λ (z : X). breaks z ≡ None) is (no_site n (breaks y) two.0)
-      | inr later ↦ each_none breaks (n + 1) ys x two.1 later
-    ]
 
 bound_none : (l : Laid) (set : ImageSet) (k : ℕ) (i : Img) → rewrite_break l set ≡ None → slice_get set.images k ≡ Some i → bound_break l set k ≡ None
 unfolding rewrite_break image_break
 bound_none l set k i none image =
-    let own = each_none (λ (p : ℕ × Img). image_break l set p.0) 0 (enumerate_from 0 set.images) (k, i) none (in_numbered 0 k k set.images i image (omega arith)) in
+    let own = unbroken_each (λ (p : ℕ × Img). image_break l set p.0) 0 (enumerate_from 0 set.images) (k, i) none (in_enumerated set.images k i image) in
     let one = or_none (delta_break l set k) _ own in
     let two = or_none (offset_break l set k) _ one.1 in
     let three = or_none (bound_break l set k) _ two.1 in

@@ -21,6 +21,7 @@ use Rattle.ref_rewrite.specs.Plans.{Plan, Fit}
 use Rattle.ref_rewrite.specs.Rewritten.{edits_in, joined}
 use Rattle.linkedit_merge.specs.Conditions.{HaveTables}
 use Rattle.linkedit_merge.specs.Linkedit.{linkedit_start, merge_break, spots_of}
+use Rattle.cache_build.specs.declared.filling.Parts.{Parts}
 use Rattle.cache_build.specs.declared.frame.Frame.{Frame}
 use Rattle.cache_build.specs.Cache.{no_spots, tail_of}
 use Rattle.cache_build.specs.Edits.{edits_of, chained_of}
@@ -52,6 +53,12 @@ pub record HasRooms (l : Laid) (frame : Frame) (head slide_info linkedit : List 
   pub middle : frame.slide_at + length slide_info ≤ frame.linkedit_at
   pub last : frame.linkedit_at + length linkedit ≤ frame.span
   pub small : frame.span ≤ 0x20000000
+
+-- parts of a cache: each has room in it, its segments can be filled, and then it's this one
+pub record ArePartsOf (cache : List ℕ) (l : Laid) (frame : Frame) (p : Parts) : Type 0 where
+  pub rooms : HasRooms l frame p.head.items p.slide_info.items p.linkedit.items
+  pub fills : CanFill l p.plans.items p.info p.words.items
+  pub is : filled l frame p.head.items (segments_of p.plans.items p.info p.words.items) p.slide_info.items p.linkedit.items ≡ cache
 
 -- the header of each image can be moved, by where it finds its streams and tables
 abbrev pub CanMoveEach : Laid → List LinkSpots → List Img → Type 0

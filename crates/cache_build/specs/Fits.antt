@@ -1,5 +1,5 @@
 -- What the parts of a cache need of their images and layout.
-use Rattle.std.specs.Prelude.{◌≡◌, ◌≤◌, ◌<◌, ℕ, ◌+◌, ◌%◌, ◌^◌, true, Some, List, [], length, map, All, slice_get, slice_index_or}
+use Rattle.std.specs.Prelude.{◌≡◌, ◌≤◌, ◌<◌, ℕ, ◌^◌, true, Some, List, length, All, slice_get}
 use Rattle.macho_image.specs.Records.{Seg, Img}
 use Rattle.cache_header.specs.Paths.{is_plain_path}
 use Rattle.cache_build.specs.Head.{text_size}

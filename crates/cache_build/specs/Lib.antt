@@ -7,3 +7,4 @@ pub mod Filling
 pub mod Fits
 pub mod Head
 pub mod Places
+pub mod Ready

@@ -1,10 +1,10 @@
 // What the cache of a set is filled with.
-ghost use Rattle.std.specs.Prelude.{◌≡◌, ◌≤◌, map, IfOk};
+ghost use Rattle.std.specs.Prelude.{◌≤◌, map, IfOk};
 ghost use Rattle.dsc_base.specs.Refusals.{RefusesSet};
 ghost use Rattle.prebind.specs.Steps.{set_of};
 ghost use Rattle.cache_build.specs.Breaks.{behind_layout};
 ghost use Rattle.cache_build.specs.Cache.{cache_from};
-ghost use Rattle.cache_build.specs.Filling.{segments_of, filled, CanFill, HasRooms, IsPrepared, CanBuild};
+ghost use Rattle.cache_build.specs.Filling.{ArePartsOf, IsPrepared, CanBuild};
 
 use crate::filling::Parts;
 use crate::frame::Frame;
@@ -33,9 +33,7 @@ pub fn gather<'a>(
     requires most { bits ≤ 16 }
     requires prepared { IsPrepared (set_of set.now) tables.now (map (λ v. v.items) placed.now) layout.now }
     requires can { CanBuild bits layout.now (set_of set.now) }
-    ensures cache { IfOk result (λ r. filled layout.now r.1 r.0.head.items (segments_of r.0.plans.items r.0.info r.0.words.items) r.0.slide_info.items r.0.linkedit.items ≡ cache_from bits layout.now (set_of set.now)) }
-    ensures rooms { IfOk result (λ r. HasRooms layout.now r.1 r.0.head.items r.0.slide_info.items r.0.linkedit.items) }
-    ensures fills { IfOk result (λ r. CanFill layout.now r.0.plans.items r.0.info r.0.words.items) }
+    ensures parts { IfOk result (λ r. ArePartsOf (cache_from bits layout.now (set_of set.now)) layout.now r.1 r.0) }
     ensures cause { RefusesSet (behind_layout bits layout.now (set_of set.now)) result }
 {
     let mut plans = plan(alloc, set, layout, placed)?;

@@ -135,22 +135,6 @@ cache_head-requires-clause-small c =
     record { layout = c.requires.prepared.layout; bytes = c.in_ok-linkedit.ensures.bytes; fits = c.in_ok-linkedit.ensures.cause; framed = c.of_sizes-frame.ensures shares size } in
     span_low l images slide shares linkedit c.of_sizes-frame.result framed
 
-pub returns-clause-rooms : goal.returns-clause-rooms
-returns-clause-rooms c =
-    let l = c.args.layout.now in
-    let set = set_of c.args.set.now in
-    let images = c.args.set.now.images.now in
-    let placed = map (λ (v : Vec PlacedWord Global). v.items) c.args.placed.now in
-    let slide = c.len-slide_size.result in
-    let shares = shares_of images c.args.tables.now l.moves in
-    let linkedit = c.in_ok-linkedit.linkedit.items in
-    let long : c.len.result ≡ length c.in_ok-linkedit.linkedit.items = search rules in
-    let size = long ∙ (ap (λ (b : List ℕ). length b) c.in_ok-linkedit.ensures.bytes ∙ length_linkedit shares) in
-    let framed : IsFramed l images slide shares linkedit c.of_sizes-frame.result =
-    record { layout = c.requires.prepared.layout; bytes = c.in_ok-linkedit.ensures.bytes; fits = c.in_ok-linkedit.ensures.cause; framed = c.of_sizes-frame.ensures shares size } in
-    let slide_long : c.len-slide_size.result ≡ length c.in_ok-info.slide_info.items = search rules in
-    have_rooms l images slide shares linkedit c.in_ok-head.head.items c.in_ok-info.slide_info.items c.of_sizes-frame.result framed (can_tell set c.args.tables.now placed l c.requires.prepared) c.in_ok-head.ensures slide_long
-
 pub returns-clause-cause : goal.returns-clause-cause
 returns-clause-cause c =
     let bits = c.args.bits in
@@ -163,8 +147,8 @@ returns-clause-cause c =
     let told = long ∙ ap (λ (b : List ℕ). length b) (c.in_ok-info.ensures.bytes ∙ ap₂ (λ (n : ℕ) (ws : List ℕ). info_bytes (info_of bits n ws)) size own) in
     none_refused bits l set c.args.tables.now c.writable.result.len c.len-slide_size.result c.deref-2.result.now c.in_ok-plans.ensures.cause size own c.in_ok-info.ensures.cause c.requires.prepared.tables_are told c.in_ok-linkedit.ensures.cause
 
-pub returns-clause-cache : goal.returns-clause-cache
-returns-clause-cache c =
+pub returns-clause-parts : goal.returns-clause-parts
+returns-clause-parts c =
     let bits = c.args.bits in
     let l = c.args.layout.now in
     let set = set_of c.args.set.now in
@@ -178,51 +162,7 @@ returns-clause-cache c =
     let slide_info = c.in_ok-info.slide_info.items in
     let linkedit = c.in_ok-linkedit.linkedit.items in
     let spots = c.deref-3.result.now in
-    let frame = c.of_sizes-frame.result in
-    let head = c.in_ok-head.head.items in
-    let headers = headers_of l spots images in
-    let size : c.writable.result.len ≡ c.args.layout.now.writable.len = ap (λ (s : Span). s.len) c.writable.ensures in
-    let slide_long : c.len-slide_size.result ≡ length c.in_ok-info.slide_info.items = search rules in
-    let long : c.len.result ≡ length c.in_ok-linkedit.linkedit.items = search rules in
-    let shares = shares_of images tables l.moves in
-    let taken : AreTaken bits l set tables placed plans c.deref.result.now words given c.writable.result.len info slide_info c.len-slide_size.result linkedit spots frame head = record {
-      placed_all = c.requires.prepared.placed_all;
-      tables_are = c.requires.prepared.tables_are;
-      planned = c.in_ok-plans.ensures.plans;
-      plans_passed = c.deref.ensures.value;
-      words_are = c.in_ok-words.ensures;
-      words_given = c.deref-2.ensures.value;
-      size_is = size;
-      made = c.in_ok-info.ensures.info;
-      told = c.in_ok-info.ensures.bytes;
-      slide_is = slide_long;
-      merged = c.in_ok-linkedit.ensures.bytes;
-      spotted = c.deref-3.ensures.value ∙ c.in_ok-linkedit.ensures.spots;
-      framed = c.of_sizes-frame.ensures shares (long ∙ (ap (λ (b : List ℕ). length b) c.in_ok-linkedit.ensures.bytes ∙ length_linkedit shares));
-      head_is = c.in_ok-head.ensures;
-      ranges = c.in_ok-plans.ensures.ranges headers c.in_ok-put_headers.ensures.sized;
-    } in
-    let is : IsGathered bits l set plans headers frame head info words slide_info linkedit = gathered bits l set tables placed plans c.deref.result.now words given c.writable.result.len info slide_info c.len-slide_size.result linkedit spots frame head taken in
-    let back = written_back plans c.deref_mut.result.now c.put_headers.new.plans c.in_ok-plans.plans.len c.deref_mut.ensures.value c.deref_mut.ensures.len c.put_headers.auto.plans in
-    let headed = back ∙ (c.in_ok-put_headers.ensures.headers ∙ ap (λ (ps : List Plan). with_headers headers ps) c.deref_mut.ensures.value) in
-    ap (λ (ps : List Plan). filled l frame head (segments_of ps info words) slide_info linkedit) headed
-    ∙ cache_is bits l set plans headers frame head info words slide_info linkedit is
-
-pub returns-clause-fills : goal.returns-clause-fills
-returns-clause-fills c =
-    let bits = c.args.bits in
-    let l = c.args.layout.now in
-    let set = set_of c.args.set.now in
-    let images = c.args.set.now.images.now in
-    let tables = c.args.tables.now in
-    let placed = map (λ (v : Vec PlacedWord Global). v.items) c.args.placed.now in
-    let plans = c.in_ok-plans.plans.items in
-    let words = c.in_ok-words.words.items in
-    let given = c.deref-2.result.now in
-    let info = c.in_ok-info.info in
-    let slide_info = c.in_ok-info.slide_info.items in
-    let linkedit = c.in_ok-linkedit.linkedit.items in
-    let spots = c.deref-3.result.now in
+    let slide = c.len-slide_size.result in
     let frame = c.of_sizes-frame.result in
     let head = c.in_ok-head.head.items in
     let headers = headers_of l spots images in
@@ -256,5 +196,11 @@ returns-clause-fills c =
       words_are = c.in_ok-words.ensures ∙ ap (λ (ps : List Plan). flat_map (λ (p : Plan). p.words) ps) c.deref.ensures.value;
       made = subst (λ (n : ℕ). IsMade info n words) size (subst (λ (ws : List ℕ). IsMade info c.writable.result.len ws) c.deref-2.ensures.value c.in_ok-info.ensures.made);
     } in
-    subst (λ (ps : List Plan). CanFill l ps info words) (sym headed)
-    (can_fill bits l set plans headers frame head info words slide_info linkedit is are c.requires.prepared.layout c.requires.can c.in_ok-plans.ensures.cause c.in_ok-put_headers.ensures.sized)
+    let framed : IsFramed l images slide shares linkedit frame =
+    record { layout = c.requires.prepared.layout; bytes = c.in_ok-linkedit.ensures.bytes; fits = c.in_ok-linkedit.ensures.cause; framed = taken.framed } in
+    record {
+      rooms = have_rooms l images slide shares linkedit head slide_info frame framed (can_tell set tables placed l c.requires.prepared) c.in_ok-head.ensures slide_long;
+      fills = subst (λ (ps : List Plan). CanFill l ps info words) (sym headed)
+          (can_fill bits l set plans headers frame head info words slide_info linkedit is are c.requires.prepared.layout c.requires.can c.in_ok-plans.ensures.cause c.in_ok-put_headers.ensures.sized);
+      is = ap (λ (ps : List Plan). filled l frame head (segments_of ps info words) slide_info linkedit) headed ∙ cache_is bits l set plans headers frame head info words slide_info linkedit is;
+    }
