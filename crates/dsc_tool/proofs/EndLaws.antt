@@ -14,7 +14,7 @@ use Rattle.dsc_tool.specs.Steps.{IsProduct, made_of, Tells, TellsStop, IsDeliver
 use Rattle.dsc_tool.specs.Streams.{World}
 use Rattle.dsc_tool.specs.Texts.{text_of}
 
-worked : (words : List (List ℕ)) (files : Option Files) (p : Product) → IsProduct words files p → IsWorked words files
+abbrev worked : (words : List (List ℕ)) (files : Option Files) (p : Product) → IsProduct words files p → IsWorked words files
 worked words files p (order, contents, is, promised) = record { order = order; contents = contents; made = made_of p; is = is; promised = promised }
 
 -- ---- the count of failed gets has no part in what is delivered

@@ -4,6 +4,7 @@ pub mod InputLaws
 pub mod ListLaws
 pub mod OutputLaws
 pub mod PrefixLaws
+pub mod ProductLaws
 pub mod ReadingLaws
 pub mod SoundLaws
 pub mod ToldLaws

@@ -1,5 +1,5 @@
 -- The names of inputs.
-use Rattle.std.proofs.Common.{◌≡◌, ◌<◌, ◌≤◌, ℕ, List, length, map, Bool, true, not, ◌&&◌, nat_eq, nat_lt, nat_le, Bor, refl, ap, sym, ◌∙◌, arith}
+use Rattle.std.proofs.Common.{◌≡◌, ◌<◌, ◌≤◌, ◌==◌, ℕ, List, [], ◌∷◌, length, map, Bool, true, false, not, ◌&&◌, nat_eq, nat_lt, nat_le, Bor, refl, ap, sym, ◌∙◌, arith}
 use Rattle.std.specs.List.{list_any}
 use Rattle.std.specs.Cmp.Lexicographic.{pointwise}
 use Rattle.std.proofs.lemmas.List.{length-map}
@@ -26,3 +26,7 @@ inputs_are out names found some few is =
     ap not (is ∙ list_any-map (λ (name : List ℕ). pointwise nat_eq name out) (λ (name : Bor (List ℕ)). name.now) names)
     ∙ sym (both_true _ _ _ (is_less 0 (length (map (λ (name : Bor (List ℕ)). name.now) names)) longer)
     (is_at_most (length (map (λ (name : Bor (List ℕ)). name.now) names)) most_inputs fewer))
+
+pub not_none : {X : Type 0} (items : List X) → (length items == 0) ≡ false → 0 < length items
+not_none [] is = absurd cc
+not_none (x ∷ xs) is = omega arith
