@@ -10,8 +10,8 @@ use Rattle.dsc_base.specs.Outside.{Files, HasFile, Rose}
 use Rattle.dsc_base.specs.declared.fault.Break.{Break}
 use Rattle.load_model.specs.Phases.{contents}
 use Rattle.dsc_tool.specs.declared.stop.Stop.{Stop}
-use Rattle.dsc_tool.specs.declared.stop.Stop.TheVariants.{BadWords, Unread, Refused, Memory}
-use Rattle.dsc_tool.specs.Inputs.{AreRead, IsTooLarge, InputCause, IsReadingStop, ReadCause, total}
+use Rattle.dsc_tool.specs.declared.stop.Stop.TheVariants.{BadWords, Unread, Refused, Flawed, Memory}
+use Rattle.dsc_tool.specs.Inputs.{AreRead, IsTooLarge, FileCause, IsReadingStop, FilesCause, total}
 use Rattle.dsc_tool.specs.Stops.{file_limit, input_limit}
 
 -- the item at an index, under another name
@@ -35,44 +35,46 @@ pub contents_more : (files after : List (Vec ℕ Global)) (file : Vec ℕ Global
 contents_more files after file pushed = ap contents pushed ∙ map-append (λ (f : Vec ℕ Global). f.items) files (file ∷ [])
 
 -- a count that rose has risen since any earlier moment
-rose_since : (old since new : ℕ) → old ≤ since → Rose since new → Rose old new
+pub rose_since : (old since new : ℕ) → old ≤ since → Rose since new → Rose old new
 rose_since old since new le (inl lt) = inl (omega arith)
 rose_since old since new le (inr ends) =
     elim (eq-or-lt_of_le le) [ inl same ↦ inr (same ∙ ends.0, ends.1) | inr lt ↦ inl (let e = ends.0 in let f = ends.1 in omega arith) ]
 
-too_large_since : (files : Option Files) (old since new : ℕ) (name : List ℕ) (input : ℕ) (b : Break) → old ≤ since → IsTooLarge files since new name input b → IsTooLarge files old new name input b
-too_large_since None old since new name input b le (is, rose) = (is, rose_since old since new le rose)
-too_large_since (Some m) old since new name input b le told = told
+too_large_since : (files : Option Files) (old since new : ℕ) (name : List ℕ) (file : ℕ) (b : Break) → old ≤ since → IsTooLarge files since new name file b → IsTooLarge files old new name file b
+too_large_since None old since new name file b le (is, rose) = (is, rose_since old since new le rose)
+too_large_since (Some m) old since new name file b le told = told
 
-cause_since : (files : Option Files) (old since new : ℕ) (name : List ℕ) (input before : ℕ) (stop : Stop) → old ≤ since → InputCause files since new name input before stop
-    → InputCause files old new name input before stop
-cause_since files old since new name input before BadWords le never = never
-cause_since files old since new name input before (Unread i) le (is, inl lacks) = (is, inl lacks)
-cause_since files old since new name input before (Unread i) le (is, inr rose) = (is, inr (rose_since old since new le rose))
-cause_since files old since new name input before (Refused b) le (inl large) = inl (too_large_since files old since new name input b le large)
-cause_since files old since new name input before (Refused b) le (inr large) = inr large
-cause_since files old since new name input before Memory le any = any
+cause_since : (files : Option Files) (old since new first : ℕ) (name : List ℕ) (file before : ℕ) (stop : Stop) → old ≤ since → FileCause files since new first name file before stop
+    → FileCause files old new first name file before stop
+cause_since files old since new first name file before BadWords le never = never
+cause_since files old since new first name file before (Unread i) le (is, inl lacks) = (is, inl lacks)
+cause_since files old since new first name file before (Unread i) le (is, inr rose) = (is, inr (rose_since old since new le rose))
+cause_since files old since new first name file before (Refused b) le (inl large) = inl (too_large_since files old since new name file b le large)
+cause_since files old since new first name file before (Refused b) le (inr large) = inr large
+cause_since files old since new first name file before (Flawed f) le never = never
+cause_since files old since new first name file before Memory le any = any
 
--- why one input isn't taken, as why the reading ends
-reading_due : (files : Option Files) (old new : ℕ) (names : List (List ℕ)) (stop : Stop) → IsReadingStop files old new names stop
-    → ReadCause files old new names stop
-reading_due files old new names BadWords is = is.cause
-reading_due files old new names (Unread input) is = is
-reading_due files old new names (Refused b) is = is
-reading_due files old new names Memory is = tt
+-- why one file isn't taken, as why the reading ends
+reading_due : (files : Option Files) (old new first : ℕ) (names : List (List ℕ)) (stop : Stop) → IsReadingStop files old new first names stop
+    → FilesCause files old new first names stop
+reading_due files old new first names BadWords is = is.cause
+reading_due files old new first names (Unread input) is = is
+reading_due files old new first names (Refused b) is = is
+reading_due files old new first names (Flawed f) is = is.cause
+reading_due files old new first names Memory is = tt
 
-pub stopped_at : (files : Option Files) (old since new : ℕ) (names : List (List ℕ)) (i : ℕ) (name : List ℕ) (earlier : List (List ℕ)) (before : ℕ) (stop : Stop) → i < length names
-    → name ≡ get_or names i name → AreRead files (take i names) earlier → before ≡ total earlier → old ≤ since → InputCause files since new name i before stop
-    → ReadCause files old new names stop
-stopped_at files old since new names i name earlier before stop inside is read size le cause =
+pub stopped_at : (files : Option Files) (old since new first : ℕ) (names : List (List ℕ)) (i : ℕ) (name : List ℕ) (earlier : List (List ℕ)) (before : ℕ) (stop : Stop) → i < length names
+    → name ≡ get_or names i name → AreRead files (take i names) earlier → before ≡ total earlier → old ≤ since → FileCause files since new first name i before stop
+    → FilesCause files old new first names stop
+stopped_at files old since new first names i name earlier before stop inside is read size le cause =
     let here : name ≡ get_or names i [] = is ∙ get_or_default names i name [] inside in
-    reading_due files old new names stop (record {
-      input = i;
+    reading_due files old new first names stop (record {
+      file = i;
       inside = inside;
       earlier = earlier;
       read = read;
-      cause = subst (λ (n : List ℕ). InputCause files old new n i (total earlier) stop) here
-          (subst (λ (b : ℕ). InputCause files old new name i b stop) size (cause_since files old since new name i before stop le cause));
+      cause = subst (λ (n : List ℕ). FileCause files old new first n i (total earlier) stop) here
+          (subst (λ (b : ℕ). FileCause files old new first name i b stop) size (cause_since files old since new first name i before stop le cause));
     })
 
 -- as many files as names

@@ -1,7 +1,10 @@
+pub mod Clap
 pub mod EndLaws
 pub mod InputLaws
+pub mod ListLaws
 pub mod OutputLaws
 pub mod PrefixLaws
+pub mod ProductLaws
 pub mod ReadingLaws
 pub mod SoundLaws
 pub mod ToldLaws

@@ -1,55 +1,71 @@
 -- What the output of a run is, by the cause that the run found.
-use Rattle.std.proofs.Common.{◌≡◌, ◌⊎◌, ℕ, List, [], length, Option, Some, None, Result, Ok, Err, ap, ◌∙◌, inl, inr}
+use Rattle.std.proofs.Common.{◌≡◌, ◌⊎◌, ℕ, List, Option, Some, None, Result, Ok, Err, refl, ap, ◌∙◌, inl, inr}
 use Rattle.dsc_base.specs.Outside.{Files, Rose}
 use Rattle.dsc_base.specs.declared.fault.Break.{Break}
-use Rattle.cache_build.specs.Breaks.{set_break}
-use Rattle.cache_build.specs.Built.{built}
-use Rattle.dsc_tool.specs.Options.{delta_bits}
+use Rattle.dsc_base.specs.declared.fault.Finding.{Finding}
+use Rattle.dsc_tool.specs.declared.status.Status.TheVariants.{Refused as IsRefused}
 use Rattle.dsc_tool.specs.declared.stop.Stop.{Stop}
-use Rattle.dsc_tool.specs.declared.stop.Stop.TheVariants.{BadWords, Unread, Refused}
-use Rattle.dsc_tool.specs.Causes.{IsRead, IsAccepted, IsDue}
-use Rattle.dsc_tool.specs.Output.{Placed, build_end, read_end, inputs_end, command_end, outcome_of, output}
+use Rattle.dsc_tool.specs.declared.stop.Stop.TheVariants.{BadWords, Unread, Refused, Flawed, Memory}
+use Rattle.dsc_tool.specs.Causes.{IsRead, IsMade, RefusalCause, IsDue}
+use Rattle.dsc_tool.specs.Inputs.{Contents, inputs_of}
+use Rattle.dsc_tool.specs.Made.{Made, made}
+use Rattle.dsc_tool.specs.Output.{order_end, inputs_end, command_end, outcome_of, output}
+use Rattle.dsc_tool.specs.Statuses.{status_of}
 use Rattle.dsc_tool.specs.Words.{Order, command_of}
-use Rattle.dsc_tool.proofs.ReadingLaws.{read_all, unread_end, refused_end}
+use Rattle.dsc_tool.proofs.ReadingLaws.{inputs_read, inputs_unread, inputs_refused, inputs_flawed}
 
--- inputs that are read come to what their first broken rule says
-whole_end : (words : List (List ℕ)) (files : Files) (order : Order) (bytes : List (List ℕ)) (found : Option Break) → IsRead words (Some files) order bytes → set_break delta_bits bytes ≡ found
-    → command_end files (command_of words) ≡ build_end order.out bytes found
-whole_end words files order bytes found read is =
-    ap (λ (o : Option Order). command_end files o) read.spelled
-    ∙ (ap (λ (r : Result (List (List ℕ)) Stop). inputs_end order.out r) (read_all files order.inputs bytes read.inputs)
-    ∙ ap (λ (b : Option Break). build_end order.out bytes b) is)
+-- an order whose inputs come to something
+order_ends : (words : List (List ℕ)) (files : Files) (order : Order) (read : Result Contents Stop) → command_of words ≡ Some order → inputs_end files (inputs_of order) ≡ read
+    → command_end files (command_of words) ≡ order_end order read
+order_ends words files order read spelled is = ap (λ (o : Option Order). command_end files o) spelled ∙ ap (order_end order) is
 
--- a reading that ends comes to that
-stop_end : (words : List (List ℕ)) (files : Files) (order : Order) (stop : Stop) → command_of words ≡ Some order → read_end files order.inputs (Ok []) ≡ Err stop
-    → command_end files (command_of words) ≡ Err stop
-stop_end words files order stop spelled ends =
-    ap (λ (o : Option Order). command_end files o) spelled ∙ ap (λ (r : Result (List (List ℕ)) Stop). inputs_end order.out r) ends
+-- inputs that are read come to what is made of them
+read_ends : (words : List (List ℕ)) (files : Files) (order : Order) (contents : Contents) (m : Result Made Stop) → IsRead words (Some files) order contents → made order contents ≡ m
+    → command_end files (command_of words) ≡ m
+read_ends words files order contents m read is =
+    order_ends words files order (Ok contents) read.spelled (inputs_read files (inputs_of order) contents read.inputs) ∙ is
 
-ended : (words : List (List ℕ)) (files : Files) (end : Result Placed Stop) → command_end files (command_of words) ≡ end → output words files ≡ outcome_of files end
+ended : (words : List (List ℕ)) (files : Files) (end : Result Made Stop) → command_end files (command_of words) ≡ end → output words files ≡ outcome_of files end
 unfolding output
-ended words files end is = ap (λ (e : Result Placed Stop). outcome_of files e) is
+ended words files end is = ap (λ (e : Result Made Stop). outcome_of files e) is
 
-pub output-accepted : (words : List (List ℕ)) (files : Files) (order : Order) (bytes : List (List ℕ)) → IsAccepted words (Some files) order bytes
-    → output words files ≡ outcome_of files (Ok record { name = order.out; images = length bytes; cache = built delta_bits bytes })
-output-accepted words files order bytes accepted =
-    ended words files _ (whole_end words files order bytes None accepted.read accepted.unbroken)
+pub output-made : (words : List (List ℕ)) (files : Files) (order : Order) (contents : Contents) (m : Made) → IsMade words (Some files) order contents m
+    → output words files ≡ outcome_of files (Ok m)
+output-made words files order contents m is = ended words files (Ok m) (read_ends words files order contents (Ok m) is.read is.made)
 
 pub output-bad_words : (words : List (List ℕ)) (files : Files) → command_of words ≡ None → output words files ≡ outcome_of files (Err BadWords)
-output-bad_words words files none = ended words files _ (ap (λ (o : Option Order). command_end files o) none)
+output-bad_words words files none = ended words files (Err BadWords) (ap (λ (o : Option Order). command_end files o) none)
+
+cause_ends : (words : List (List ℕ)) (files : Files) (order : Order) (stop : Stop) → command_of words ≡ Some order
+    → (inputs_end files (inputs_of order) ≡ Err stop) ⊎ ((contents : Contents) × IsRead words (Some files) order contents × (made order contents ≡ Err stop))
+    → output words files ≡ outcome_of files (Err stop)
+cause_ends words files order stop spelled (inl ends) = ended words files (Err stop) (order_ends words files order (Err stop) spelled ends)
+cause_ends words files order stop spelled (inr (contents, read, is)) = ended words files (Err stop) (read_ends words files order contents (Err stop) read is)
+
+-- an order that is refused
+pub output-refusal : (words : List (List ℕ)) (files : Files) (old new : ℕ) (order : Order) (stop : Stop) → command_of words ≡ Some order → status_of stop ≡ IsRefused
+    → RefusalCause words (Some files) old new order stop → output words files ≡ outcome_of files (Err stop)
+output-refusal words files old new order BadWords spelled is cause = absurd cc
+output-refusal words files old new order (Unread input) spelled is cause = absurd cc
+output-refusal words files old new order (Refused b) spelled is (inl reading) = cause_ends words files order (Refused b) spelled (inl (inputs_refused files old new (inputs_of order) b reading))
+output-refusal words files old new order (Refused b) spelled is (inr made_so) = cause_ends words files order (Refused b) spelled (inr made_so)
+output-refusal words files old new order (Flawed f) spelled is (inl reading) = cause_ends words files order (Flawed f) spelled (inl (inputs_flawed files old new (inputs_of order) f reading))
+output-refusal words files old new order (Flawed f) spelled is (inr made_so) = cause_ends words files order (Flawed f) spelled (inr made_so)
+output-refusal words files old new order Memory spelled is cause = absurd cc
 
 pub output-refused : (words : List (List ℕ)) (files : Files) (old new : ℕ) (b : Break) → IsDue words (Some files) old new (Refused b)
     → output words files ≡ outcome_of files (Err (Refused b))
-output-refused words files old new b (order, spelled, inl reading) =
-    ended words files _ (stop_end words files order (Refused b) spelled (refused_end files old new order.inputs b reading))
-output-refused words files old new b (order, spelled, inr (bytes, read, is)) =
-    ended words files _ (whole_end words files order bytes (Some b) read is)
+output-refused words files old new b (order, spelled, cause) = output-refusal words files old new order (Refused b) spelled refl cause
+
+pub output-flawed : (words : List (List ℕ)) (files : Files) (old new : ℕ) (f : Finding) → IsDue words (Some files) old new (Flawed f)
+    → output words files ≡ outcome_of files (Err (Flawed f))
+output-flawed words files old new f (order, spelled, cause) = output-refusal words files old new order (Flawed f) spelled refl cause
 
 -- an input was not read since the files lack it, or since reading failed
 pub output-unread : (words : List (List ℕ)) (files : Files) (old new input : ℕ) → IsDue words (Some files) old new (Unread input)
     → Rose old new ⊎ (output words files ≡ outcome_of files (Err (Unread input)))
 output-unread words files old new input (order, spelled, reading) =
-    elim (unread_end files old new order.inputs input reading) [
+    elim (inputs_unread files old new (inputs_of order) input reading) [
       | inl rose ↦ inl rose
-      | inr ends ↦ inr (ended words files _ (stop_end words files order (Unread input) spelled ends))
+      | inr ends ↦ inr (cause_ends words files order (Unread input) spelled (inl ends))
     ]

@@ -1,21 +1,28 @@
 -- How a run over told files stands to its output.
-use Rattle.std.proofs.Common.{◌≡◌, ◌<◌, ◌⊎◌, ℕ, List, [], length, Option, Some, Result, Ok, Err, refl, ap, sym, ◌∙◌, subst, inl, inr}
-use Rattle.dsc_base.specs.Outside.{Files, AppendsPrefix, with_file}
+use Rattle.std.proofs.Common.{◌≡◌, ◌<◌, ◌⊎◌, ℕ, List, [], ◌∷◌, Option, Some, None, Result, Ok, Err, refl, ap, sym, ◌∙◌, subst, inl, inr}
 use Rattle.std.specs.FinMap.{insert}
-use Rattle.cache_header.specs.Reading.{span}
+use Rattle.dsc_base.specs.Outside.{Files, AppendsPrefix, with_file}
+use Rattle.dsc_base.specs.declared.fault.Break.{Break}
+use Rattle.cache_build.specs.Breaks.{set_break}
+use Rattle.cache_build.specs.Built.{built}
+use Rattle.cache_build.specs.declared.builder.Options.{Options}
+use Rattle.dsc_tool.specs.Options.{delta_bits}
 use Rattle.dsc_tool.specs.declared.status.Status.{Status}
 use Rattle.dsc_tool.specs.declared.status.Status.TheVariants.{Done, Refused, BadWords, ReadFault, WriteFault, Memory, Differs}
 use Rattle.dsc_tool.specs.declared.stop.Stop.{Stop}
-use Rattle.dsc_tool.specs.declared.stop.Stop.TheVariants.{BadWords as NoCommand, Unread, Refused as Broken, Memory as NoMemory}
-use Rattle.dsc_tool.specs.Causes.{IsAccepted, IsDue}
-use Rattle.dsc_tool.specs.Output.{Placed, Outcome, command_end, outcome_of, output}
-use Rattle.dsc_tool.specs.Ran.{IsDone, IsStopped, IsCutShort, Ends, IsOutcome, IsSettled, IsFaultText, IsByOutput, IsBuilt, Ran}
+use Rattle.dsc_tool.specs.declared.stop.Stop.TheVariants.{BadWords as NoCommand, Unread, Refused as Broken, Flawed, Memory as NoMemory}
+use Rattle.dsc_tool.specs.Causes.{IsMade, IsDue}
+use Rattle.dsc_tool.specs.Inputs.{Contents, InputsAreRead, inputs_of}
+use Rattle.dsc_tool.specs.Made.{Made, Promised, build_made, cache_made, made}
+use Rattle.dsc_tool.specs.Output.{Outcome, command_end, outcome_of, output}
+use Rattle.dsc_tool.specs.Ran.{IsDone, IsStopped, IsCutShort, IsLeftOff, Ends, IsOutcome, IsSettled, IsFaultText, IsByOutput, IsBuilt, Ran}
 use Rattle.dsc_tool.specs.Statuses.{status_of}
-use Rattle.dsc_tool.specs.Streams.{World, AnyRose, appended}
-use Rattle.dsc_tool.specs.Texts.{text_of, built_line, cannot_write_line}
-use Rattle.dsc_tool.specs.Words.{Order, command_of}
-use Rattle.dsc_tool.proofs.OutputLaws.{output-accepted, output-bad_words, output-refused, output-unread}
+use Rattle.dsc_tool.specs.Streams.{World, AnyRose, appended, put_files, with_files}
+use Rattle.dsc_tool.specs.Texts.{text_of, cannot_write_line, no_memory_line}
+use Rattle.dsc_tool.specs.Words.{Order, build, command_of}
+use Rattle.dsc_tool.proofs.OutputLaws.{output-made, output-bad_words, output-refused, output-flawed, output-refusal, output-unread}
 use Rattle.dsc_tool.proofs.PrefixLaws.{appended-none, prefix-none, prefix-whole}
+use Rattle.dsc_tool.proofs.ReadingLaws.{unread_inside}
 
 -- the cause of a stop, over told files
 due_told : (words : List (List ℕ)) (files : Files) (before after : World) (stop : Stop) → before.files ≡ Some files
@@ -23,28 +30,32 @@ due_told : (words : List (List ℕ)) (files : Files) (before after : World) (sto
 due_told words files before after stop told due =
     subst (λ (f : Option Files). IsDue words f before.get_faults after.get_faults stop) told due
 
-accepted_told : (words : List (List ℕ)) (files : Files) (before : World) (order : Order) (bytes : List (List ℕ)) → before.files ≡ Some files
-    → IsAccepted words before.files order bytes → IsAccepted words (Some files) order bytes
-accepted_told words files before order bytes told accepted = subst (λ (f : Option Files). IsAccepted words f order bytes) told accepted
+made_told : (words : List (List ℕ)) (files : Files) (before : World) (order : Order) (contents : Contents) (m : Made) → before.files ≡ Some files
+    → IsMade words before.files order contents m → IsMade words (Some files) order contents m
+made_told words files before order contents m told is = subst (λ (f : Option Files). IsMade words f order contents m) told is
 
--- A run that ended as its output
+put_told : (files : Files) (fs : List (List ℕ × List ℕ)) → with_files (Some files) fs ≡ Some (put_files files fs)
+put_told files [] = refl
+put_told files (f ∷ fs) = put_told (insert files f.0 f.1) fs
+
+-- a run that ended as its output
 exact : (words : List (List ℕ)) (files : Files) (before after : World) (status : Status) → IsOutcome (output words files) before after status
     → IsByOutput words files before after status
 exact words files before after status o =
     record {
       settled = λ _. o;
       quiet = λ _. inr o;
-      complete = λ order bytes accepted _. inr (subst (λ (e : Outcome). IsOutcome e before after status) (output-accepted words files order bytes accepted) o);
-      refuses = λ order b spelled cause _.
-          inr (subst (λ (e : Outcome). IsOutcome e before after status) (output-refused words files before.get_faults after.get_faults b (order, spelled, cause)) o);
+      complete = λ order contents m is _. inr (subst (λ (e : Outcome). IsOutcome e before after status) (output-made words files order contents m is) o);
+      refuses = λ order stop spelled refused cause _.
+          inr (subst (λ (e : Outcome). IsOutcome e before after status) (output-refusal words files before.get_faults after.get_faults order stop spelled refused cause) o);
       printed = prefix-whole before.out after.out (output words files).out o.out;
       printed_all = λ _. o.out;
       told = ((output words files).err, inl refl, prefix-whole before.err after.err (output words files).err o.err);
     }
 
 -- the output prints nothing on standard output unless it is Done
-silent_end : (files : Files) (end : Result Placed Stop) (status : Status) → status ≡ (outcome_of files end).status → (status ≡ Done → ⊥) → (outcome_of files end).out ≡ []
-silent_end files (Ok p) status is other = absurd (other is)
+silent_end : (files : Files) (end : Result Made Stop) (status : Status) → status ≡ (outcome_of files end).status → (status ≡ Done → ⊥) → (outcome_of files end).out ≡ []
+silent_end files (Ok m) status is other = absurd (other is)
 silent_end files (Err stop) status is other = refl
 
 silent : (words : List (List ℕ)) (files : Files) (status : Status) → status ≡ (output words files).status → (status ≡ Done → ⊥) → (output words files).out ≡ []
@@ -61,8 +72,9 @@ stop_text : (words : List (List ℕ)) (files : Files) (old new : ℕ) (stop : St
     → (text_of stop ≡ (output words files).err) ⊎ IsFaultText words (text_of stop)
 stop_text words files old new NoCommand due = inl (sym (ap (λ (o : Outcome). o.err) (output-bad_words words files due)))
 stop_text words files old new (Unread input) (order, spelled, reading) =
-    inr (inl (order, input, spelled, subst (λ (i : ℕ). i < length order.inputs) (sym reading.cause.0) reading.inside, refl))
+    inr (inl (order, input, spelled, unread_inside (Some files) old new (inputs_of order) input reading, refl))
 stop_text words files old new (Broken b) due = inl (sym (ap (λ (o : Outcome). o.err) (output-refused words files old new b due)))
+stop_text words files old new (Flawed f) due = inl (sym (ap (λ (o : Outcome). o.err) (output-flawed words files old new f due)))
 stop_text words files old new NoMemory due = inr (inr (inr refl))
 
 -- where memory was wanting, or something failed, nothing more is asked of the run
@@ -70,17 +82,18 @@ excused : (P : Type 0) (before after : World) (status : Status) → (status ≡ 
 excused P before after status (inl memory) still = inl memory
 excused P before after status (inr rose) still = absurd (still rose)
 
+abbrev IsTold : List (List ℕ) → Files → World → World → Type 0
+IsTold words files before after = (text : List ℕ) × ((text ≡ (output words files).err) ⊎ IsFaultText words text) × AppendsPrefix before.err text after.err
+
 -- a run that stopped with a status that isn't settled
 unsettled : (words : List (List ℕ)) (files : Files) (before after : World) (status : Status) → (IsSettled status → ⊥) → (status ≡ Done → ⊥)
-    → (status ≡ Memory) ⊎ AnyRose before after → after.out ≡ before.out
-    → ((text : List ℕ) × ((text ≡ (output words files).err) ⊎ IsFaultText words text) × AppendsPrefix before.err text after.err)
-    → IsByOutput words files before after status
+    → (status ≡ Memory) ⊎ AnyRose before after → after.out ≡ before.out → IsTold words files before after → IsByOutput words files before after status
 unsettled words files before after status never other why same told =
     record {
       settled = λ is. absurd (never is);
       quiet = λ still. excused _ before after status why still;
-      complete = λ _ _ _ still. excused _ before after status why still;
-      refuses = λ _ _ _ _ still. excused _ before after status why still;
+      complete = λ _ _ _ _ still. excused _ before after status why still;
+      refuses = λ _ _ _ _ _ still. excused _ before after status why still;
       printed = prefix-none before.out after.out (output words files).out same;
       printed_all = printed_none words files before after status other same;
       told = told;
@@ -95,18 +108,18 @@ stopped_told words files before after stop told is ended =
 done_told : (words : List (List ℕ)) (files : Files) (before after : World) → before.files ≡ Some files → IsDone words before after
     → IsOutcome (output words files) before after Done
 done_told words files before after told is =
+    let m = is.worked.made in
     subst (λ (o : Outcome). IsOutcome o before after Done)
-    (sym (output-accepted words files is.order is.bytes (accepted_told words files before is.order is.bytes told is.accepted)))
+    (sym (output-made words files is.worked.order is.worked.contents m (made_told words files before is.worked.order is.worked.contents m told is.worked.is)))
     (record {
       status_is = refl;
-      files = is.files ∙ (ap (λ (f : Option Files). with_file f is.order.out is.cache) told ∙ ap (λ (c : List ℕ). Some (insert files is.order.out c)) is.is);
-      out = is.out ∙ ap (λ (c : List ℕ). appended before.out (built_line (length is.bytes) (span c))) is.is;
-      err = appended-none before.err after.err is.err;
+      files = is.all.files ∙ (ap (λ (f : Option Files). with_files f m.files) told ∙ put_told files m.files);
+      out = is.all.out;
+      err = appended-none before.err after.err is.all.err;
     })
 
 -- what a stop tells of, whole
-stop_told : (words : List (List ℕ)) (files : Files) (before after : World) (stop : Stop) → before.files ≡ Some files → IsStopped words before after stop
-    → (text : List ℕ) × ((text ≡ (output words files).err) ⊎ IsFaultText words text) × AppendsPrefix before.err text after.err
+stop_told : (words : List (List ℕ)) (files : Files) (before after : World) (stop : Stop) → before.files ≡ Some files → IsStopped words before after stop → IsTold words files before after
 stop_told words files before after stop told is = (
   text_of stop,
   stop_text words files before.get_faults after.get_faults stop (due_told words files before after stop told is.cause),
@@ -116,18 +129,29 @@ stop_told words files before after stop told is = (
 cut_told : (words : List (List ℕ)) (files : Files) (before after : World) → before.files ≡ Some files → IsCutShort words before after
     → IsByOutput words files before after WriteFault
 cut_told words files before after told cut =
-    let done = output-accepted words files cut.order cut.bytes (accepted_told words files before cut.order cut.bytes told cut.accepted) in
-    let rose : (WriteFault ≡ Memory) ⊎ AnyRose before after = elim cut.part [ inl file ↦ inr (inl (inr file.fault)) | inr line ↦ inr (inr (inl line.fault)) ] in
+    let m = cut.worked.made in
+    let done = output-made words files cut.worked.order cut.worked.contents m (made_told words files before cut.worked.order cut.worked.contents m told cut.worked.is) in
+    let rose : (WriteFault ≡ Memory) ⊎ AnyRose before after = elim cut.some.part [ inl file ↦ inr (inl (inr file.fault)) | inr text ↦ inr (inr (inl text.fault)) ] in
     record {
       settled = λ never. absurd never;
       quiet = λ still. excused _ before after WriteFault rose still;
-      complete = λ _ _ _ still. excused _ before after WriteFault rose still;
-      refuses = λ _ _ _ _ still. excused _ before after WriteFault rose still;
+      complete = λ _ _ _ _ still. excused _ before after WriteFault rose still;
+      refuses = λ _ _ _ _ _ still. excused _ before after WriteFault rose still;
       printed = subst (λ (o : Outcome). AppendsPrefix before.out o.out after.out) (sym done)
-          (elim cut.part [ inl file ↦ prefix-none before.out after.out _ file.out | inr line ↦ line.out ]);
+          (elim cut.some.part [ inl file ↦ prefix-none before.out after.out _ file.out | inr text ↦ text.out ]);
       printed_all = λ is. absurd (let never : WriteFault ≡ Done = is ∙ ap (λ (o : Outcome). o.status) done in cc);
-      told = (cannot_write_line, inr (inr (inl refl)), elim cut.err [ inl all ↦ prefix-whole before.err after.err cannot_write_line all.1 | inr part ↦ part.2 ]);
+      told = (cannot_write_line, inr (inr (inl refl)), elim cut.some.err [ inl all ↦ prefix-whole before.err after.err cannot_write_line all.1 | inr part ↦ part.2 ]);
     }
+
+memory_told : (words : List (List ℕ)) (files : Files) (before after : World) (status : Status) → IsLeftOff words before after status → IsTold words files before after
+memory_told words files before after status left =
+    (no_memory_line, inr (inr (inr refl)), elim left.few.err [ inl all ↦ prefix-whole before.err after.err no_memory_line all.1 | inr part ↦ part.2 ])
+
+left_rose : (words : List (List ℕ)) (before after : World) → IsLeftOff words before after WriteFault → AnyRose before after
+left_rose words before after left = elim left.few.err [
+  | inl told ↦ absurd (let never : WriteFault ≡ Memory = told.0 in cc)
+  | inr failed ↦ inr (inr failed.1)
+]
 
 read_told : (words : List (List ℕ)) (files : Files) (before after : World) (input : ℕ) → before.files ≡ Some files → IsStopped words before after (Unread input)
     → IsByOutput words files before after ReadFault
@@ -140,42 +164,74 @@ read_told words files before after input told is =
 pub by_output : (words : List (List ℕ)) (files : Files) (before after : World) (status : Status) → before.files ≡ Some files → Ends words before after status
     → IsByOutput words files before after status
 by_output words files before after Done told is = exact words files before after Done (done_told words files before after told is)
-by_output words files before after Refused told (b, is) =
+by_output words files before after Refused told (inl (b, is)) =
     exact words files before after Refused
     (stopped_told words files before after (Broken b) told is
     (output-refused words files before.get_faults after.get_faults b (due_told words files before after (Broken b) told is.cause)))
+by_output words files before after Refused told (inr (f, is)) =
+    exact words files before after Refused
+    (stopped_told words files before after (Flawed f) told is
+    (output-flawed words files before.get_faults after.get_faults f (due_told words files before after (Flawed f) told is.cause)))
 by_output words files before after BadWords told is =
     exact words files before after BadWords (stopped_told words files before after NoCommand told is (output-bad_words words files is.cause))
 by_output words files before after ReadFault told (input, is) = read_told words files before after input told is
-by_output words files before after WriteFault told (inl un) =
+by_output words files before after WriteFault told (inl (inl un)) =
     unsettled words files before after WriteFault (λ never. never) (λ (never : WriteFault ≡ Done). cc) (inr (inr (inr un.fault))) un.out
     (text_of un.stop, stop_text words files before.get_faults after.get_faults un.stop (due_told words files before after un.stop told un.cause), un.err)
-by_output words files before after WriteFault told (inr cut) = cut_told words files before after told cut
-by_output words files before after Memory told is =
+by_output words files before after WriteFault told (inl (inr cut)) = cut_told words files before after told cut
+by_output words files before after WriteFault told (inr left) =
+    unsettled words files before after WriteFault (λ never. never) (λ (never : WriteFault ≡ Done). cc) (inr (left_rose words before after left)) left.few.out
+    (memory_told words files before after WriteFault left)
+by_output words files before after Memory told (inl is) =
     unsettled words files before after Memory (λ never. never) (λ (never : Memory ≡ Done). cc) (inl refl) is.out (stop_told words files before after NoMemory told is)
+by_output words files before after Memory told (inr left) =
+    unsettled words files before after Memory (λ never. never) (λ (never : Memory ≡ Done). cc) (inl refl) left.few.out (memory_told words files before after Memory left)
 by_output words files before after Differs told never = absurd never
 
--- after Done the cache of the told inputs is at its name
-pub built-told : (words : List (List ℕ)) (files : Files) (before after : World) → before.files ≡ Some files → IsDone words before after
-    → IsBuilt words files after.files
-built-told words files before after told is =
-    let accepted = accepted_told words files before is.order is.bytes told is.accepted in
+-- ---- a build that was done
+
+abbrev made_or : Made → Result Made Stop → Made
+made_or d (Ok m) = m
+made_or d (Err stop) = d
+
+build_made_is : (out : List ℕ) (bytes : List (List ℕ)) (found : Option Break) (m : Made) → build_made out bytes found ≡ Ok m → (found ≡ None) × (m ≡ cache_made out bytes)
+build_made_is out bytes None m is = (refl, sym (ap (made_or m) is))
+build_made_is out bytes (Some b) m is = absurd cc
+
+abbrev order_or : Order → Option Order → Order
+order_or d None = d
+order_or d (Some order) = order
+
+build_done : (words : List (List ℕ)) (files : Files) (before after : World) (options : Options) (out : List ℕ) (names : List (List ℕ)) (contents : Contents) (m : Made)
+    → before.files ≡ Some files → InputsAreRead (Some files) (inputs_of (build options out names)) contents → made (build options out names) contents ≡ Ok m
+    → Promised (build options out names) contents → after.files ≡ with_files before.files m.files → IsBuilt out names files after.files
+build_done words files before after options out names contents m told read is promised put =
+    let parts = build_made_is out contents.files (set_break delta_bits contents.files) m is in
     record {
-      order = is.order;
-      bytes = is.bytes;
-      spelled = accepted.read.spelled;
-      inputs = accepted.read.inputs;
-      unbroken = accepted.unbroken;
-      cache = is.cache;
-      is = is.is;
-      corresponds = is.corresponds;
-      placed = is.files ∙ ap (λ (f : Option Files). with_file f is.order.out is.cache) told;
+      bytes = contents.files;
+      inputs = read.rest;
+      unbroken = parts.0;
+      cache = built delta_bits contents.files;
+      is = refl;
+      corresponds = promised;
+      placed = put ∙ (ap (λ (f : Option Files). with_files f m.files) told ∙ ap (λ (n : Made). with_files (Some files) n.files) parts.1);
     }
 
-pub done-built : (words : List (List ℕ)) (files : Files) (before after : World) (status : Status) → before.files ≡ Some files → status ≡ Done
-    → Ends words before after status → IsBuilt words files after.files
-done-built words files before after status told done is =
-    built-told words files before after told (subst (λ (s : Status). Ends words before after s) done is)
+-- after Done the cache of the told inputs is at its name
+built-told : (words : List (List ℕ)) (files : Files) (before after : World) (options : Options) (out : List ℕ) (names : List (List ℕ)) → before.files ≡ Some files
+    → command_of words ≡ Some (build options out names) → IsDone words before after → IsBuilt out names files after.files
+built-told words files before after options out names told spelled is =
+    let w = is.worked in
+    let here = made_told words files before w.order w.contents w.made told w.is in
+    let same : w.order ≡ build options out names = ap (order_or w.order) (sym here.read.spelled ∙ spelled) in
+    build_done words files before after options out names w.contents w.made told
+    (subst (λ (o : Order). InputsAreRead (Some files) (inputs_of o) w.contents) same here.read.inputs)
+    (subst (λ (o : Order). made o w.contents ≡ Ok w.made) same here.made) (subst (λ (o : Order). Promised o w.contents) same w.promised) is.all.files
+
+pub done-built : (words : List (List ℕ)) (files : Files) (before after : World) (options : Options) (out : List ℕ) (names : List (List ℕ)) (status : Status) → before.files ≡ Some files
+    → command_of words ≡ Some (build options out names) → status ≡ Done → Ends words before after status → IsBuilt out names files after.files
+done-built words files before after options out names status told spelled done is =
+    built-told words files before after options out names told spelled (subst (λ (s : Status). Ends words before after s) done is)
 
 pub ran : (words : List (List ℕ)) (before after : World) (status : Status) → Ends words before after status → Ran words before after status
 ran words before after status is = record { ends = is; by_output = λ files told. by_output words files before after status told is }

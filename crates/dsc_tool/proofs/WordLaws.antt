@@ -1,35 +1,32 @@
--- Words that are names, one after another.
-use Rattle.std.proofs.Common.{◌≡◌, ◌<◌, ◌+◌, ◌++◌, ℕ, List, [], ◌∷◌, length, map, take, get_or, Bool, true, false, ◌&&◌, nat_lt, nat_le, refl, ap, sym, ◌∙◌, arith}
-use Rattle.std.specs.List.{list_all}
-use Rattle.std.proofs.lemmas.List.{get_or-map, take_more, length-map}
-use Rattle.std.proofs.lemmas.List.Folds.{list_all_more, list_all_at}
-use Rattle.dsc_tool.specs.Words.{most_inputs, is_input_name, are_inputs}
+-- The names of inputs.
+use Rattle.std.proofs.Common.{◌≡◌, ◌<◌, ◌≤◌, ◌==◌, ℕ, List, [], ◌∷◌, length, map, Bool, true, false, not, ◌&&◌, nat_eq, nat_lt, nat_le, Bor, refl, ap, sym, ◌∙◌, arith}
+use Rattle.std.specs.List.{list_any}
+use Rattle.std.specs.Cmp.Lexicographic.{pointwise}
+use Rattle.std.proofs.lemmas.List.{length-map}
+use Rattle.clap.proofs.WalkLemmas.{list_any-map}
+use Rattle.dsc_tool.specs.Words.{most_inputs, are_inputs}
 
--- the text of the item at an index
-pub text_at : {X : Type 0} (text : X → List ℕ) (names : List X) (i : ℕ) (name : X) (bytes : List ℕ) → i < length names → name ≡ get_or names i name → bytes ≡ text name
-    → get_or (map text names) i [] ≡ bytes
-text_at text names i name bytes inside is same = get_or-map text names i name [] inside ∙ (ap text (sym is) ∙ sym same)
+is_less : (a b : ℕ) → a < b → nat_lt a b ≡ true
+is_less a b lt = grind arith
 
-pub one_more : {X : Type 0} (text : X → List ℕ) (names : List X) (i : ℕ) (name : X) (bytes : List ℕ) (before after : List (List ℕ)) → i < length names → name ≡ get_or names i name → bytes ≡ text name
-    → before ≡ take i (map text names) → after ≡ before ++ (bytes ∷ []) → after ≡ take (i + 1) (map text names)
-one_more text names i name bytes before after inside is same so_far pushed =
-    let longer : i < length (map text names) = omega (arith, length-map names text) in
-    pushed ∙ (ap (λ (l : List (List ℕ)). l ++ (bytes ∷ [])) so_far
-    ∙ (ap (λ (b : List ℕ). take i (map text names) ++ (b ∷ [])) (sym (text_at text names i name bytes inside is same))
-    ∙ sym (take_more (map text names) i [] longer)))
+is_at_most : (a b : ℕ) → a ≤ b → nat_le a b ≡ true
+is_at_most a b le = grind arith
 
-pub inputs_kept : (out : List ℕ) (names : List (List ℕ)) (i : ℕ) (name : List ℕ) → i < length names → get_or names i [] ≡ name
-    → list_all (is_input_name out) (take i names) ≡ true → is_input_name out name ≡ true → list_all (is_input_name out) (take (i + 1) names) ≡ true
-inputs_kept out names i name inside is so_far here =
-    list_all_more (is_input_name out) names i [] inside
-    ∙ (ap (λ (b : Bool). b && is_input_name out (get_or names i [])) so_far ∙ (ap (is_input_name out) is ∙ here))
+both_true : (a b c : Bool) → a ≡ true → b ≡ true → ((a && b) && c) ≡ c
+both_true a b c p q = ap (λ (x : Bool). (x && b) && c) p ∙ ap (λ (x : Bool). (true && x) && c) q
 
-and_false : (b : Bool) → (b && false) ≡ false
-and_false true = refl
-and_false false = refl
+-- 1 to 4,096 names, of which none or some is the cache's
+pub inputs_are : (out : List ℕ) (names : List (Bor (List ℕ))) (found : Bool) → 0 < length names → length names ≤ most_inputs
+    → found ≡ list_any (λ (name : Bor (List ℕ)). pointwise nat_eq name.now out) names
+    → not found ≡ are_inputs out (map (λ (name : Bor (List ℕ)). name.now) names)
+inputs_are out names found some few is =
+    let same = length-map names (λ (name : Bor (List ℕ)). name.now) in
+    let longer : 0 < length (map (λ (name : Bor (List ℕ)). name.now) names) = omega (arith, same, some) in
+    let fewer : length (map (λ (name : Bor (List ℕ)). name.now) names) ≤ most_inputs = omega (arith, same, few) in
+    ap not (is ∙ list_any-map (λ (name : List ℕ). pointwise nat_eq name out) (λ (name : Bor (List ℕ)). name.now) names)
+    ∙ sym (both_true _ _ _ (is_less 0 (length (map (λ (name : Bor (List ℕ)). name.now) names)) longer)
+    (is_at_most (length (map (λ (name : Bor (List ℕ)). name.now) names)) most_inputs fewer))
 
-pub no_inputs : (out : List ℕ) (names : List (List ℕ)) (i : ℕ) (name : List ℕ) → i < length names → get_or names i [] ≡ name → is_input_name out name ≡ false
-    → are_inputs out names ≡ false
-no_inputs out names i name inside is never =
-    let some : list_all (is_input_name out) names ≡ false = list_all_at (is_input_name out) names i [] inside (ap (is_input_name out) is ∙ never) in
-    ap (λ (b : Bool). (nat_lt 0 (length names) && nat_le (length names) most_inputs) && b) some ∙ and_false _
+pub not_none : {X : Type 0} (items : List X) → (length items == 0) ≡ false → 0 < length items
+not_none [] is = absurd cc
+not_none (x ∷ xs) is = omega arith

@@ -1,5 +1,7 @@
 pub mod Causes
+pub mod ClapCommand
 pub mod Inputs
+pub mod Made
 pub mod Options
 pub mod Output
 pub mod Ran
@@ -8,4 +10,5 @@ pub mod Steps
 pub mod Stops
 pub mod Streams
 pub mod Texts
+pub mod WordParts
 pub mod Words

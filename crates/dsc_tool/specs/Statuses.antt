@@ -3,7 +3,7 @@ use Rattle.std.specs.Prelude.{ℕ}
 use Rattle.dsc_tool.specs.declared.status.Status.{Status}
 use Rattle.dsc_tool.specs.declared.status.Status.TheVariants.{Done, Refused, BadWords, ReadFault, WriteFault, Memory, Differs}
 use Rattle.dsc_tool.specs.declared.stop.Stop.{Stop}
-use Rattle.dsc_tool.specs.declared.stop.Stop.TheVariants.{BadWords as NoCommand, Unread, Refused as Broken, Memory as NoMemory}
+use Rattle.dsc_tool.specs.declared.stop.Stop.TheVariants.{BadWords as NoCommand, Unread, Refused as Broken, Flawed, Memory as NoMemory}
 
 abbrev pub code_of : Status → ℕ
 code_of Done = 0
@@ -19,4 +19,5 @@ abbrev pub status_of : Stop → Status
 status_of NoCommand = BadWords
 status_of (Unread input) = ReadFault
 status_of (Broken b) = Refused
+status_of (Flawed f) = Refused
 status_of NoMemory = Memory

@@ -1,29 +1,77 @@
 -- What the parts of a run leave to one another.
-use Rattle.std.specs.Prelude.{◌≡◌, ◌⊎◌, ℕ, List, length, string_bytes, Option}
-use Rattle.dsc_base.specs.Outside.{Files, Rose, AppendsPrefix, LeavesPrefix, with_file}
+use Rattle.std.specs.Prelude.{◌≡◌, ◌<◌, ◌≤◌, ◌⊎◌, ℕ, List, [], map, take, length, get_or, Option, Some, None, Err}
+use Rattle.dsc_base.specs.Outside.{Files, HasFile, Rose, AppendsPrefix, LeavesPrefix}
+use Rattle.dsc_base.specs.declared.fault.Finding.{Finding}
+use Rattle.cache_header.specs.Findings.{head_finding}
+use Rattle.cache_header.specs.Reading.{head_read}
+use Rattle.cache_header.specs.Records.{Head}
 use Rattle.cache_build.specs.Always.{CorrespondsAlways}
-use Rattle.cache_header.specs.Reading.{span}
+use Rattle.cache_build.specs.Breaks.{set_break}
 use Rattle.cache_build.specs.Built.{built}
 use Rattle.dsc_tool.specs.Options.{delta_bits}
+use Rattle.dsc_base.specs.declared.outside.store.PutFault.{PutFault}
+use Rattle.dsc_base.specs.declared.outside.store.PutFault.TheVariants.{Failed, Memory as PutMemory}
 use Rattle.dsc_tool.specs.declared.product.Product.{Product}
+use Rattle.dsc_tool.specs.declared.product.NewFile.{NewFile}
 use Rattle.dsc_tool.specs.declared.status.Status.{Status}
 use Rattle.dsc_tool.specs.declared.status.Status.TheVariants.{Done, Refused, BadWords, ReadFault, WriteFault, Memory, Differs}
 use Rattle.dsc_tool.specs.declared.stop.Stop.{Stop}
-use Rattle.dsc_tool.specs.Causes.{IsAccepted}
+use Rattle.dsc_tool.specs.declared.stop.Stop.TheVariants.{Flawed}
+use Rattle.dsc_tool.specs.Causes.{IsMade}
+use Rattle.dsc_tool.specs.Inputs.{AreRead, CacheCause, Contents, FilesCause}
+use Rattle.dsc_tool.specs.Made.{Made, Promised, build_made, cache_made}
 use Rattle.dsc_tool.specs.Statuses.{status_of}
-use Rattle.dsc_tool.specs.Streams.{World, appended}
-use Rattle.dsc_tool.specs.Texts.{text_of, built_line, no_memory_line, cannot_write_line}
+use Rattle.dsc_tool.specs.Stops.{cache_limit}
+use Rattle.dsc_tool.specs.Streams.{World, appended, with_files}
+use Rattle.dsc_tool.specs.Texts.{text_of, no_memory_line, cannot_write_line}
 use Rattle.dsc_tool.specs.Words.{Order}
 
--- the product is the cache of the accepted inputs, which corresponds to them, and the line that tells of it
-pub record IsProductOf (order : Order) (bytes : List (List ℕ)) (p : Product) : Type 0 where
-  pub name : p.name ≡ order.out
-  pub cache : p.cache.items ≡ built delta_bits bytes
-  pub corresponds : CorrespondsAlways bytes (built delta_bits bytes)
-  pub line : string_bytes p.line ≡ built_line (length bytes) (span p.cache.items)
+-- ---- what is made
 
+-- a product of the code
+abbrev pub new_files : List NewFile → List (List ℕ × List ℕ)
+new_files files = map (λ f. (f.name, f.bytes.items)) files
+
+abbrev pub made_of : Product → Made
+made_of p = record { files = new_files p.files.items; text = p.text.items }
+
+-- the product is what the words come to, by the files
 abbrev pub IsProduct : List (List ℕ) → Option Files → Product → Type 0
-IsProduct words files p = (order : Order) × (bytes : List (List ℕ)) × IsAccepted words files order bytes × IsProductOf order bytes p
+IsProduct words files p =
+    (order : Order) × (contents : Contents) × IsMade words files order contents (made_of p) × Promised order contents
+
+-- files of these names were read, and break no rule; their cache, which corresponds to them, is made
+pub record BuildWorks (files : Option Files) (out : List ℕ) (names : List (List ℕ)) (m : Made) : Type 0 where
+  pub bytes : List (List ℕ)
+  pub read : AreRead files names bytes
+  pub unbroken : set_break delta_bits bytes ≡ None
+  pub is : m ≡ cache_made out bytes
+  pub corresponds : CorrespondsAlways bytes (built delta_bits bytes)
+
+-- files of these names weren't read, or break a rule
+abbrev pub BuildStop : Option Files → ℕ → ℕ → List ℕ → List (List ℕ) → Stop → Type 0
+BuildStop files old new out names stop =
+    FilesCause files old new 0 names stop ⊎ ((bytes : List (List ℕ)) × AreRead files names bytes × (build_made out bytes (set_break delta_bits bytes) ≡ Err stop))
+
+-- a cache of this name was read, has no finding in its head, and this is what its head says
+pub record HasHead (files : Option Files) (name : List ℕ) (h : Head) : Type 0 where
+  pub bytes : List ℕ
+  pub there : HasFile files name bytes
+  pub within : length bytes ≤ cache_limit
+  pub sound : head_finding bytes ≡ None
+  pub is : h ≡ head_read bytes
+
+-- and a text on it is made
+abbrev pub TextWorks : (Head → List ℕ) → Option Files → List ℕ → Made → Type 0
+TextWorks text files name m = (h : Head) × HasHead files name h × (m ≡ record { files = []; text = text h })
+
+-- a cache of this name wasn't read, or has a finding in its head
+abbrev pub HeadStop : Option Files → ℕ → ℕ → List ℕ → Stop → Type 0
+HeadStop files old new name stop =
+    CacheCause files old new name stop
+    ⊎ ((bytes : List ℕ) × HasFile files name bytes × (length bytes ≤ cache_limit) × ((f : Finding) × (stop ≡ Flawed f) × (head_finding bytes ≡ Some f)))
+
+-- ---- what is told on standard error
 
 -- the text was put and the status stands, or putting it failed
 abbrev pub Tells : List ℕ → Status → Option (List ℕ) → ℕ → Option (List ℕ) → ℕ → Status → Type 0
@@ -35,40 +83,64 @@ abbrev pub TellsStop : Stop → Option (List ℕ) → ℕ → Option (List ℕ) 
 TellsStop stop before old after new status =
     Tells (text_of stop) (status_of stop) before old after new status ⊎ Tells no_memory_line Memory before old after new status
 
+-- ---- what is put
+
+abbrev pub file_at : List (List ℕ × List ℕ) → ℕ → List ℕ × List ℕ
+file_at files k = get_or files k ([], [])
+
+-- So many of these files were put, the next one wasn't, and of it a prefix is there or nothing is changed.
+pub record PutsSome (before after : Option Files) (files : List (List ℕ × List ℕ)) : Type 0 where
+  pub count : ℕ
+  pub inside : count < length files
+  pub left : LeavesPrefix (with_files before (take count files)) after (file_at files count).0 (file_at files count).1
+
+-- So many of these files were put, and nothing else is changed.
+pub record PutsFew (before after : Option Files) (files : List (List ℕ × List ℕ)) : Type 0 where
+  pub count : ℕ
+  pub inside : count < length files
+  pub left : after ≡ with_files before (take count files)
+
+-- why not all of these files were put, by the store's count of faults before and after
+abbrev pub PutsShort : Option Files → Option Files → ℕ → ℕ → List (List ℕ × List ℕ) → PutFault → Type 0
+PutsShort before after old new files Failed = Rose old new × PutsSome before after files
+PutsShort before after old new files PutMemory = PutsFew before after files
+
+-- ---- how a product is delivered
+
 -- all was put
-pub record IsDelivered (p : Product) (before after : World) : Type 0 where
-  pub files : after.files ≡ with_file before.files p.name p.cache.items
-  pub out : after.out ≡ appended before.out (string_bytes p.line)
+pub record IsDelivered (m : Made) (before after : World) : Type 0 where
+  pub files : after.files ≡ with_files before.files m.files
+  pub out : after.out ≡ appended before.out m.text
   pub err : after.err ≡ before.err
 
--- the store failed to take all of these bytes, and nothing was printed on standard output
-pub record IsFilePart (before after : World) (name bytes : List ℕ) : Type 0 where
+-- the store failed to take all of a file, and nothing was printed on standard output
+pub record IsFilePart (m : Made) (before after : World) : Type 0 where
   pub fault : Rose before.put_faults after.put_faults
-  pub files : LeavesPrefix before.files after.files name bytes
+  pub files : PutsSome before.files after.files m.files
   pub out : after.out ≡ before.out
 
--- the store took all of these bytes, and standard output failed to take all of the line
-pub record IsLinePart (before after : World) (name bytes line : List ℕ) : Type 0 where
+-- the store took all files, and standard output failed to take all of the text
+pub record IsTextPart (m : Made) (before after : World) : Type 0 where
   pub fault : Rose before.out_faults after.out_faults
-  pub files : after.files ≡ with_file before.files name bytes
-  pub out : AppendsPrefix before.out line after.out
+  pub files : after.files ≡ with_files before.files m.files
+  pub out : AppendsPrefix before.out m.text after.out
 
--- the cache or the line was not put, and this was told if it could be
-pub record IsUndelivered (p : Product) (before after : World) : Type 0 where
-  pub part : IsFilePart before after p.name p.cache.items ⊎ IsLinePart before after p.name p.cache.items (string_bytes p.line)
+-- a file or the text was not put, and this was told if it could be
+pub record IsUndelivered (m : Made) (before after : World) : Type 0 where
+  pub part : IsFilePart m before after ⊎ IsTextPart m before after
   pub err : Tells cannot_write_line WriteFault before.err before.err_faults after.err after.err_faults WriteFault
 
--- memory was wanting for the put, and this was told if it could be
-pub record IsUnput (before after : World) (status : Status) : Type 0 where
-  pub files : after.files ≡ before.files
+-- memory was wanting for the put of a file, and this was told if it could be
+pub record IsUnput (m : Made) (before after : World) (status : Status) : Type 0 where
+  pub files : PutsFew before.files after.files m.files
   pub out : after.out ≡ before.out
   pub err : Tells no_memory_line Memory before.err before.err_faults after.err after.err_faults status
 
-abbrev pub Delivers : Product → World → World → Status → Type 0
-Delivers p before after Done = IsDelivered p before after
-Delivers p before after WriteFault = IsUndelivered p before after ⊎ IsUnput before after WriteFault
-Delivers p before after Memory = IsUnput before after Memory
-Delivers p before after Refused = ⊥
-Delivers p before after BadWords = ⊥
-Delivers p before after ReadFault = ⊥
-Delivers p before after Differs = ⊥
+abbrev pub Delivers : Made → World → World → Status → Type 0
+Delivers m before after Done = IsDelivered m before after
+Delivers m before after WriteFault = IsUndelivered m before after ⊎ IsUnput m before after WriteFault
+Delivers m before after Memory = IsUnput m before after Memory
+Delivers m before after Refused = ⊥
+Delivers m before after BadWords = ⊥
+Delivers m before after ReadFault = ⊥
+Delivers m before after Differs = ⊥

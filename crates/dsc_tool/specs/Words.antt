@@ -1,58 +1,99 @@
--- The words behind the program's name, and the command that they spell: `build OUT IN...`.
-use Rattle.std.specs.Prelude.{◌≡◌, ℕ, List, [], ◌∷◌, Bool, false, not, ◌&&◌, nat_eq, nat_lt, nat_le, if◌then◌else◌, Option, Some, None, length, codes}
-use Rattle.std.specs.List.{list_all}
+-- The words behind the program's name, and the order that they spell.
+use Rattle.std.specs.Prelude.{◌≡◌, ◌≤◌, ◌+◌, ◌-◌, ◌*◌, ℕ, List, [], ◌∷◌, Bool, true, false, not, ◌&&◌, nat_eq, nat_lt, nat_le, if◌then◌else◌, Option, Some, None, option_map, option_and_then, length, codes}
+use Rattle.std.specs.List.{list_any}
 use Rattle.std.specs.Cmp.Lexicographic.{pointwise}
 use Rattle.cache_build.specs.declared.builder.Options.{Options}
+use Rattle.dsc_tool.specs.Options.{delta_bits}
 use Rattle.dsc_tool.specs.declared.command.Command.{Command}
-use Rattle.dsc_tool.specs.declared.command.Command.TheVariants.{Build}
+use Rattle.dsc_tool.specs.declared.command.Command.TheVariants.{Build, List as ListImages, Info}
 use Rattle.dsc_tool.specs.declared.command.WordsFault.{WordsFault}
 use Rattle.dsc_tool.specs.declared.command.WordsFault.TheVariants.{BadWords, Memory}
+use Rattle.dsc_tool.specs.WordParts.{Parts, parts}
 
--- a build: how it is done, the name that the cache is put at, and the names of the inputs in their order
-pub record Order : Type 0 where
-  pub options : Options
-  pub out : List ℕ
-  pub inputs : List (List ℕ)
-
--- one worker, and 16 bits for the distance to the next word of a chain
-abbrev pub plain_options : Options
-plain_options = record { jobs = 1; delta_bits = 16 }
-
--- a word that begins with a dash
-abbrev pub is_option : List ℕ → Bool
-is_option [] = false
-is_option (c ∷ cs) = nat_eq c 45
+-- what is asked for: that a cache is built as the options say and put at a name, from inputs in their order; that the images of a cache are listed; that the head of a cache is told
+pub data Order : Type 0 where
+  build : Options → List ℕ → List (List ℕ) → Order
+  list : List ℕ → Order
+  info : List ℕ → Order
 
 -- the most inputs that a command takes
 abbrev pub most_inputs : ℕ
 most_inputs = 4096
 
--- a name that doesn't look like an option, and isn't the one that the cache is put at
-abbrev pub is_input_name : List ℕ → List ℕ → Bool
-is_input_name out name = not (is_option name) && not (pointwise nat_eq out name)
+-- ---- the number of jobs
 
--- 1 to 4,096 such names
+abbrev pub digit : ℕ → Option ℕ
+digit c = if nat_le 48 c && nat_le c 57 then Some (c - 48) else None
+
+-- the number that one or two decimal digits spell
+abbrev pub short_number : List ℕ → Option ℕ
+short_number (one ∷ []) = digit one
+short_number (ten ∷ one ∷ []) = option_and_then (λ t. option_map (λ n. 10 * t + n) (digit one)) (digit ten)
+short_number _ = None
+
+abbrev pub from_1_to_64 : ℕ → Option ℕ
+from_1_to_64 n = if nat_le 1 n && nat_le n 64 then Some n else None
+
+-- 1 where the words don't tell it
+abbrev pub jobs_of : Option (List ℕ) → Option ℕ
+jobs_of None = Some 1
+jobs_of (Some text) = option_and_then from_1_to_64 (short_number text)
+
+-- ---- the commands
+
+-- 1 to 4,096 inputs, none of which is the name that the cache is put at
 abbrev pub are_inputs : List ℕ → List (List ℕ) → Bool
-are_inputs out names = (nat_lt 0 (length names) && nat_le (length names) most_inputs) && list_all (is_input_name out) names
+are_inputs out names =
+    (nat_lt 0 (length names) && nat_le (length names) most_inputs) && not (list_any (λ name. pointwise nat_eq name out) names)
 
--- `build`, a name that doesn't look like an option, and the inputs
-abbrev pub is_build : List ℕ → List ℕ → List (List ℕ) → Bool
-is_build word out names = pointwise nat_eq word (codes "build") && (not (is_option out) && are_inputs out names)
+abbrev pub build_of : Option ℕ → List (List ℕ) → Option Order
+build_of (Some jobs) (out ∷ names) =
+    if are_inputs out names then Some (build (record { jobs = jobs; delta_bits = delta_bits }) out names) else None
+build_of _ _ = None
+
+-- `build [--jobs N] OUT IN...`, without its first word
+abbrev pub build_order : Parts → Option Order
+build_order p = build_of (jobs_of p.value) p.plain
+
+-- the one plain word
+abbrev pub only_word : List (List ℕ) → Option (List ℕ)
+only_word (word ∷ []) = Some word
+only_word _ = None
+
+-- `list CACHE` and `info CACHE`, without their first word
+abbrev pub cache_word : Parts → Option (List ℕ)
+cache_word p = only_word p.plain
+
+abbrev pub is_word : List ℕ → List ℕ → Bool
+is_word word name = pointwise nat_eq word name
 
 unfoldable pub command_of : List (List ℕ) → Option Order
-command_of (word ∷ out ∷ names) =
-    if is_build word out names then Some record { options = plain_options; out = out; inputs = names } else None
-command_of _ = None
+command_of [] = None
+command_of (word ∷ rest) =
+    if is_word word (codes "build") then option_and_then build_order (parts (Some (codes "jobs")) false rest)
+    else (if is_word word (codes "list") then option_map list (option_and_then cache_word (parts None false rest))
+    else (if is_word word (codes "info") then option_map info (option_and_then cache_word (parts None false rest)) else None))
 
--- the names of a command's inputs
-abbrev pub inputs_of : Command → List (List ℕ)
-inputs_of (Build options out inputs) = inputs.items
+-- ---- a command of the program
 
 -- what a command asks for
 abbrev pub order_of : Command → Order
-order_of (Build options out inputs) = record { options = options; out = out; inputs = inputs.items }
+order_of (Build options out inputs) = build options out inputs.items
+order_of (ListImages cache) = list cache
+order_of (Info cache) = info cache
 
--- words are bad exactly where they spell no command; memory may be wanting at any time
-abbrev pub IsWordsFault : Option Order → WordsFault → Type 0
+-- a build has 1 to 64 jobs, and the number of bits that all builds have, and 1 to 4,096 inputs
+pub record IsBuild (options : Options) (names : List (List ℕ)) : Type 0 where
+  pub jobs : (1 ≤ options.jobs) × (options.jobs ≤ 64)
+  pub bits : options.delta_bits ≡ delta_bits
+  pub few : (1 ≤ length names) × (length names ≤ most_inputs)
+
+abbrev pub IsWithin : Command → Type 0
+IsWithin (Build options out inputs) = IsBuild options inputs.items
+IsWithin (ListImages cache) = Unit {0}
+IsWithin (Info cache) = Unit {0}
+
+-- words are bad exactly where they spell nothing; memory may be wanting at any time
+abbrev pub IsWordsFault : {X : Type 0} → Option X → WordsFault → Type 0
 IsWordsFault spelled BadWords = spelled ≡ None
 IsWordsFault spelled Memory = Unit {0}

@@ -1,11 +1,13 @@
 // The words of the command line, and the command that they spell.
-ghost use Rattle.std.specs.Prelude.{◌≡◌, ◌≤◌, IfOk, IfErr, Some, map, string_bytes, length};
-ghost use Rattle.dsc_tool.specs.Words.{command_of, order_of, inputs_of, is_option, is_input_name, are_inputs, most_inputs, plain_options, IsWordsFault};
+ghost use Rattle.std.specs.Prelude.{◌≡◌, IfOk, IfErr, Some, None, map, option_map, option_and_then, string_bytes, codes, false};
+ghost use Rattle.dsc_tool.specs.WordParts.{parts};
+ghost use Rattle.dsc_tool.specs.Words.{command_of, order_of, build_order, cache_word, jobs_of, short_number, digit, are_inputs, IsWithin, IsWordsFault};
 ghost use Rattle.dsc_tool.specs.declared.command.WordsFault.TheVariants as faults;
 
+use crate::split::split_words;
 use cache_build::Options;
 use dsc_base::{NoMemory, Text};
-use std::alloc::{AllocFailed, Global};
+use std::alloc::{AllocError, AllocFailed, Global};
 
 /// What the words ask for.
 #[derive(Drop)]
@@ -16,6 +18,10 @@ pub enum Command {
         out: Text,
         inputs: Vec<Text>,
     },
+    /// Lists the images of a cache.
+    List { cache: Text },
+    /// Tells what the head of a cache says.
+    Info { cache: Text },
 }
 
 /// Why the words gave no command.
@@ -30,61 +36,130 @@ pub enum WordsFault {
 /// The most inputs that a command takes.
 const MOST_INPUTS: usize = 4096;
 
-/// One worker, and 16 bits for the distance to the next word of a chain.
-const PLAIN_OPTIONS: Options = Options {
-    jobs: 1,
-    delta_bits: 16,
-};
+/// How many bits of a pointer tell the distance to the next one of its chain.
+const DELTA_BITS: u32 = 16;
 
-/// The command that the words behind the program's name spell: `build`, the name of the cache and those of
-/// 1 to 4,096 inputs, none beginning with a dash, and none of the inputs the cache itself. `BadWords` comes
-/// exactly where they spell none.
+/// The command that the words behind the program's name spell:
+///
+/// * `build [--jobs N] OUT IN...`, with N from 1 to 64, of one or two decimal digits, and 1 to 4,096 inputs,
+///   none of which is OUT;
+/// * `list CACHE`;
+/// * `info CACHE`.
+///
+/// An option may stand before, between or after the other words, as `--jobs N` or `--jobs=N`, and once. `--`
+/// ends the options; before it, a word that begins with a dash and isn't a dash alone is an option.
+/// `BadWords` comes exactly where the words spell no command.
 #[tactic(auto, unfolding(crate::specs::Words::command_of))]
 pub fn read_words(alloc: Global, words: &[String]) -> Result<Command, WordsFault>
     ensures spelled { IfOk result (λ c. command_of (map string_bytes words.now) ≡ Some (order_of c)) }
-    ensures options { IfOk result (λ c. (order_of c).options ≡ plain_options) }
-    ensures few { IfOk result (λ c. (1 ≤ length (inputs_of c)) × (length (inputs_of c) ≤ most_inputs)) }
+    ensures within { IfOk result IsWithin }
     ensures cause { IfErr result (IsWordsFault (command_of (map string_bytes words.now))) }
 {
-    let [command, out, inputs @ ..] = words else {
+    let [name, rest @ ..] = words else {
         return Err(WordsFault::BadWords);
     };
-    if command.as_str() != "build" || is_dashed(out) || !all_inputs(out, inputs) {
+    let name = name.as_str();
+    if name == "build" {
+        read_build(alloc, rest)
+    } else if name == "list" {
+        let cache = read_cache_name(alloc, rest)?;
+        Ok(Command::List { cache })
+    } else if name == "info" {
+        let cache = read_cache_name(alloc, rest)?;
+        Ok(Command::Info { cache })
+    } else {
+        Err(WordsFault::BadWords)
+    }
+}
+
+// The build that the words behind its name ask for.
+fn read_build(alloc: Global, words: &[String]) -> Result<Command, WordsFault>
+    ensures spelled { IfOk result (λ c. option_and_then build_order (parts (Some (codes "jobs")) false (map string_bytes words.now)) ≡ Some (order_of c)) }
+    ensures within { IfOk result IsWithin }
+    ensures cause { IfErr result (IsWordsFault (option_and_then build_order (parts (Some (codes "jobs")) false (map string_bytes words.now)))) }
+{
+    let split = split_words(alloc, Some("jobs"), words)?;
+    let Some(jobs) = jobs_of(split.value) else {
+        return Err(WordsFault::BadWords);
+    };
+    let [out, inputs @ ..] = split.plain.as_slice() else {
+        return Err(WordsFault::BadWords);
+    };
+    if !are_inputs(out, inputs) {
         return Err(WordsFault::BadWords);
     }
     let out = Text::from_str(alloc, out)?;
     let inputs = copy_names(alloc, inputs)?;
     Ok(Command::Build {
-        options: PLAIN_OPTIONS,
+        options: Options {
+            jobs,
+            delta_bits: DELTA_BITS,
+        },
         out,
         inputs,
     })
 }
 
+// The name of the cache, which is the one word behind a command's name.
+fn read_cache_name(alloc: Global, words: &[String]) -> Result<Text, WordsFault>
+    ensures spelled { IfOk result (λ name. option_and_then cache_word (parts None false (map string_bytes words.now)) ≡ Some name) }
+    ensures cause { IfErr result (IsWordsFault (option_and_then cache_word (parts None false (map string_bytes words.now)))) }
+{
+    let split = split_words(alloc, None, words)?;
+    let [cache] = split.plain.as_slice() else {
+        return Err(WordsFault::BadWords);
+    };
+    Ok(Text::from_str(alloc, cache)?)
+}
+
+// The number of jobs that the option's value tells, and 1 where there is none.
+fn jobs_of(value: Option<&str>) -> Option<u32>
+    ensures { result ≡ jobs_of (option_map (λ text. text.now) value.entry) }
+{
+    let Some(text) = value else {
+        return Some(1);
+    };
+    let jobs = short_number(text.as_bytes())?;
+    if 1 <= jobs && jobs <= 64 {
+        Some(jobs)
+    } else {
+        None
+    }
+}
+
+// The number that one or two decimal digits spell.
+fn short_number(digits: &[u8]) -> Option<u32>
+    ensures { result ≡ short_number digits.now }
+{
+    match digits {
+        [one] => digit(*one),
+        [ten, one] => Some(10 * digit(*ten)? + digit(*one)?),
+        _ => None,
+    }
+}
+
+fn digit(byte: u8) -> Option<u32>
+    ensures { result ≡ digit byte }
+{
+    if 48 <= byte && byte <= 57 {
+        Some(u32::from(byte) - 48)
+    } else {
+        None
+    }
+}
+
 // Whether the names may be the inputs of the cache that is put at `out`.
-fn all_inputs(out: &str, names: &[String]) -> bool
-    ensures { result ≡ are_inputs out.now (map string_bytes names.now) }
+fn are_inputs(out: &str, names: &[&str]) -> bool
+    ensures { result ≡ are_inputs out.now (map (λ name. name.now) names.now) }
 {
     if names.is_empty() || names.len() > MOST_INPUTS {
         return false;
     }
-    for name in names {
-        if !is_input(out, name) {
-            return false;
-        }
-    }
-    true
+    !names.contains(&out)
 }
 
-// Whether the name may be an input of the cache that is put at `out`.
-fn is_input(out: &str, name: &str) -> bool
-    ensures { result ≡ is_input_name out.now name.now }
-{
-    !is_dashed(name) && out != name
-}
-
-fn copy_names(alloc: Global, names: &[String]) -> Result<Vec<Text>, NoMemory>
-    ensures { IfOk result (λ copies. copies.items ≡ map string_bytes names.now) }
+fn copy_names(alloc: Global, names: &[&str]) -> Result<Vec<Text>, NoMemory>
+    ensures { IfOk result (λ copies. copies.items ≡ map (λ name. name.now) names.now) }
 {
     let mut copies = Vec::with_capacity(alloc, names.len())?;
     for name in names {
@@ -93,17 +168,18 @@ fn copy_names(alloc: Global, names: &[String]) -> Result<Vec<Text>, NoMemory>
     Ok(copies)
 }
 
-// A word that looks like an option.
-fn is_dashed(word: &str) -> bool
-    ensures { result ≡ is_option word.now }
-{
-    word.starts_with('-')
-}
-
 impl From<NoMemory> for WordsFault {
     ghost from_gives = { λ _ e. e ≡ faults.Memory };
 
     fn from(_: NoMemory) -> Self {
+        WordsFault::Memory
+    }
+}
+
+impl From<AllocError> for WordsFault {
+    ghost from_gives = { λ _ e. e ≡ faults.Memory };
+
+    fn from(_: AllocError) -> Self {
         WordsFault::Memory
     }
 }

@@ -2,10 +2,16 @@
 //! any streams; `main` gives it the real ones.
 #![tactic(auto)]
 
+ghost use Rattle.std.specs.Prelude.{◌≡◌, drop};
+ghost use Rattle.std.specs.Process.{exit_status};
+ghost use Rattle.dsc_tool.specs.Statuses.{code_of};
+
+mod cache_text;
 mod command;
 mod inputs;
 mod product;
 mod run;
+mod split;
 mod status;
 mod stop;
 mod text;
@@ -28,7 +34,13 @@ fn main(rt: HostRuntime) -> ExitCode {
     let mut err = WriterSink::new(rt.stderr());
     let status = match read_args(&rt, alloc) {
         Ok(words) => run(
-            &rt, alloc, &words, &mut store, &mut out, &mut err, &OpenGate,
+            &rt,
+            alloc,
+            behind_name(&words),
+            &mut store,
+            &mut out,
+            &mut err,
+            &OpenGate,
         ),
         Err(error) if error.kind() == ErrorKind::OutOfMemory => {
             tell(no_memory_text(), Status::Memory, &mut err)
@@ -36,12 +48,29 @@ fn main(rt: HostRuntime) -> ExitCode {
         // A word that isn't text is in no command, and no words are none.
         Err(_) => run(&rt, alloc, &[], &mut store, &mut out, &mut err, &OpenGate),
     };
-    ExitCode::from(status.code())
+    exit_code(status)
+}
+
+// All words of the process, from the program's name on.
+fn read_args(rt: &HostRuntime, alloc: Global) -> io::Result<Vec<String>> {
+    Ok(env::args(rt)?.collect(alloc)?)
 }
 
 // The words behind the program's name.
-fn read_args(rt: &HostRuntime, alloc: Global) -> io::Result<Vec<String>> {
-    Ok(env::args(rt)?.skip(1).collect(alloc)?)
+fn behind_name(words: &[String]) -> &[String]
+    ensures { result.now ≡ drop 1 words.now }
+{
+    match words {
+        [_, rest @ ..] => rest,
+        [] => words,
+    }
+}
+
+// The status as that of the process.
+fn exit_code(status: Status) -> ExitCode
+    ensures { exit_status result ≡ code_of status }
+{
+    ExitCode::from(status.code())
 }
 
 #[cfg(test)]

@@ -1,26 +1,36 @@
-// What a build comes to before anything is put.
-ghost use Rattle.std.specs.Prelude.{◌≡◌, IfOk, IfErr, map, string_bytes};
+// What the words come to before anything is put.
+ghost use Rattle.std.specs.Prelude.{◌≡◌, [], ◌∷◌, IfOk, IfErr, map, string_bytes};
 ghost use Rattle.dsc_tool.specs.Causes.{IsDue};
-ghost use Rattle.dsc_tool.specs.Steps.{IsProduct};
+ghost use Rattle.dsc_tool.specs.Steps.{IsProduct, made_of, BuildWorks, BuildStop, HasHead, TextWorks, HeadStop};
+ghost use Rattle.dsc_tool.specs.Texts.{list_text, info_text};
+ghost use Rattle.dsc_tool.specs.Words.{IsBuild};
 
+use crate::cache_text::{info_text, list_text};
 use crate::command::{Command, read_words};
-use crate::inputs::read_inputs;
+use crate::inputs::{read_cache, read_files};
 use crate::stop::Stop;
 use crate::text::built_text;
-use cache_build::build;
+use cache_build::{Options, build};
+use cache_header::{CacheHead, read_cache_head};
 use dsc_base::{Gate, Store, Text};
-use std::alloc::Global;
+use std::alloc::{AllocError, Global};
 use std::thread::Threads;
 
-/// A cache with the name that it is put at, and the line that tells of it.
+/// A file that is to be put.
 #[derive(Drop)]
-pub struct Product {
+pub struct NewFile {
     pub name: Text,
-    pub cache: Vec<u8>,
-    pub line: String,
+    pub bytes: Vec<u8>,
 }
 
-/// Reads the words and the inputs that they name, and builds their cache. Nothing is put.
+/// Files to put, in their order, and then a text for standard output.
+#[derive(Drop)]
+pub struct Product {
+    pub files: Vec<NewFile>,
+    pub text: Vec<u8>,
+}
+
+/// Reads the words and the inputs that they name, and makes what they ask for. Nothing is put.
 pub(crate) fn prepare<R: Threads + Sync, S: Store, G: Gate + Sync>(
     rt: &R,
     alloc: Global,
@@ -34,17 +44,90 @@ pub(crate) fn prepare<R: Threads + Sync, S: Store, G: Gate + Sync>(
     ensures files { S.files store.new ≡ S.files store.old }
     ensures put_count { S.put_faults store.new ≡ S.put_faults store.old }
 {
-    let Command::Build {
-        options,
-        out,
-        inputs,
-    } = read_words(alloc, words)?;
-    let files = read_inputs(alloc, store, &inputs)?;
-    let cache = build(rt, alloc, &files, &options, gate)?;
+    match read_words(alloc, words)? {
+        Command::Build {
+            options,
+            out,
+            inputs,
+        } => prepare_build(rt, alloc, &options, out, &inputs, store, gate),
+        Command::List { cache } => prepare_list(alloc, cache.as_str(), store),
+        Command::Info { cache } => prepare_info(alloc, cache.as_str(), store),
+    }
+}
+
+// The cache of the inputs, to be put at `out`, and the line that tells of it.
+fn prepare_build<R: Threads + Sync, S: Store, G: Gate + Sync>(
+    rt: &R,
+    alloc: Global,
+    options: &Options,
+    out: Text,
+    inputs: &[Text],
+    store: &mut S,
+    gate: &G,
+) -> Result<Product, Stop>
+    requires { IsBuild options.now inputs.now }
+    ensures product { IfOk result (λ p. BuildWorks (S.files store.old) out inputs.now (made_of p)) }
+    ensures stop { IfErr result (BuildStop (S.files store.old) (S.get_faults store.old) (S.get_faults store.new) out inputs.now) }
+    ensures files { S.files store.new ≡ S.files store.old }
+    ensures put_count { S.put_faults store.new ≡ S.put_faults store.old }
+{
+    let files = read_files(alloc, store, 0, inputs)?;
+    let cache = build(rt, alloc, &files, options, gate)?;
     let line = built_text(alloc, files.len() as u32, cache.len() as u64)?;
+    Ok(one_file(alloc, out, cache, line)?)
+}
+
+fn one_file(alloc: Global, name: Text, bytes: Vec<u8>, line: String) -> Result<Product, AllocError>
+    ensures { IfOk result (λ p. made_of p ≡ record { files = (name, bytes.items) ∷ []; text = string_bytes line }) }
+{
+    let mut files = Vec::new(alloc);
+    files.push(NewFile { name, bytes }).map_err(AllocError::from)?;
     Ok(Product {
-        name: out,
-        cache,
-        line,
+        files,
+        text: line.into_bytes(),
     })
+}
+
+// The list of the images of the cache of this name.
+fn prepare_list<S: Store>(alloc: Global, name: &str, store: &mut S) -> Result<Product, Stop>
+    ensures product { IfOk result (λ p. TextWorks list_text (S.files store.old) name.now (made_of p)) }
+    ensures stop { IfErr result (HeadStop (S.files store.old) (S.get_faults store.old) (S.get_faults store.new) name.now) }
+    ensures files { S.files store.new ≡ S.files store.old }
+    ensures put_count { S.put_faults store.new ≡ S.put_faults store.old }
+{
+    let head = read_head(alloc, name, store)?;
+    let text = list_text(alloc, &head)?;
+    Ok(only_text(alloc, text))
+}
+
+// What the head of the cache of this name says.
+fn prepare_info<S: Store>(alloc: Global, name: &str, store: &mut S) -> Result<Product, Stop>
+    ensures product { IfOk result (λ p. TextWorks info_text (S.files store.old) name.now (made_of p)) }
+    ensures stop { IfErr result (HeadStop (S.files store.old) (S.get_faults store.old) (S.get_faults store.new) name.now) }
+    ensures files { S.files store.new ≡ S.files store.old }
+    ensures put_count { S.put_faults store.new ≡ S.put_faults store.old }
+{
+    let head = read_head(alloc, name, store)?;
+    let text = info_text(alloc, &head)?;
+    Ok(only_text(alloc, text))
+}
+
+fn only_text(alloc: Global, text: Vec<u8>) -> Product
+    ensures { made_of result ≡ record { files = []; text = text.items } }
+{
+    Product {
+        files: Vec::new(alloc),
+        text,
+    }
+}
+
+// The head of the cache of this name. Nothing of the cache is copied but what the head keeps.
+fn read_head<S: Store>(alloc: Global, name: &str, store: &mut S) -> Result<CacheHead, Stop>
+    ensures head { IfOk result (HasHead (S.files store.old) name.now) }
+    ensures stop { IfErr result (HeadStop (S.files store.old) (S.get_faults store.old) (S.get_faults store.new) name.now) }
+    ensures files { S.files store.new ≡ S.files store.old }
+    ensures put_count { S.put_faults store.new ≡ S.put_faults store.old }
+{
+    let cache = read_cache(alloc, store, name)?;
+    Ok(read_cache_head(alloc, &cache)?)
 }

@@ -1,23 +1,29 @@
 // The whole of a run.
-ghost use Rattle.std.specs.Prelude.{◌≡◌, Some, map, string_bytes};
+ghost use Rattle.std.specs.Prelude.{◌≡◌, ℕ, List, Some, map, string_bytes, OnOk, IfErr};
+ghost use Rattle.cache_build.specs.declared.builder.Options.{Options as BuildOptions};
 ghost use Rattle.dsc_base.specs.Outside.{Files};
 ghost use Rattle.dsc_tool.specs.Ran.{Ran, IsBuilt};
-ghost use Rattle.dsc_tool.specs.Steps.{Delivers, Tells, TellsStop};
-ghost use Rattle.dsc_tool.specs.Streams.{world};
+ghost use Rattle.dsc_tool.specs.Steps.{Delivers, PutsShort, Tells, TellsStop, made_of, new_files};
+ghost use Rattle.dsc_tool.specs.Streams.{with_files, world};
+ghost use Rattle.dsc_tool.specs.Words.{build, command_of};
 
-use crate::product::{Product, prepare};
+use crate::product::{NewFile, Product, prepare};
 use crate::status::Status;
 use crate::stop::Stop;
-use crate::text::{cannot_read_text, cannot_write_text, no_memory_text, refused_text, usage_text};
+use crate::text::{
+    cannot_read_text, cannot_write_text, flawed_text, no_memory_text, refused_text, usage_text,
+};
 use dsc_base::{Gate, PutFault, Sink, Store};
 use std::alloc::Global;
 use std::thread::Threads;
 
 /// Does what the words behind the program's name ask for, and answers how that ended.
 ///
-/// `build OUT IN...` reads the files IN from the store in their order, at most 67,108,864 bytes of each and
-/// 536,870,912 of all, puts their cache at OUT, and tells of it on `out`. Any other answer than `Done` is
-/// told of on `err`. Nothing is put before the inputs have passed all rules. Where a put on the store or a sink fails, the answer is `WriteFault`,
+/// `build [--jobs N] OUT IN...` reads the files IN from the store in their order, at most 67,108,864 bytes of
+/// each and 536,870,912 of all, puts their cache at OUT, and tells of it on `out`. `list CACHE` and
+/// `info CACHE` read a cache of at most 2,147,483,648 bytes and tell of it on `out`. Any other answer than
+/// `Done` is told of on `err`. Nothing is put before the inputs have passed all rules, or the cache has no
+/// finding that the command looks for. Where a put on the store or a sink fails, the answer is `WriteFault`,
 /// whatever it would have been.
 pub fn run<R: Threads + Sync, S: Store, O: Sink, E: Sink, G: Gate + Sync>(
     rt: &R,
@@ -33,8 +39,9 @@ pub fn run<R: Threads + Sync, S: Store, O: Sink, E: Sink, G: Gate + Sync>(
         (O.written out.old) (O.faults out.old) (E.written err.old) (E.faults err.old))
         (world (S.files store.new) (S.get_faults store.new) (S.put_faults store.new)
         (O.written out.new) (O.faults out.new) (E.written err.new) (E.faults err.new)) result }
-    ensures built { (files : Files) → S.files store.old ≡ Some files → result ≡ Status.Done
-        → IsBuilt (map string_bytes words.now) files (S.files store.new) }
+    ensures built { (files : Files) (options : BuildOptions) (name : List ℕ) (inputs : List (List ℕ)) → S.files store.old ≡ Some files
+        → command_of (map string_bytes words.now) ≡ Some (build options name inputs) → result ≡ Status.Done
+        → IsBuilt name inputs files (S.files store.new) }
 {
     match prepare(rt, alloc, words, store, gate) {
         Ok(product) => deliver(alloc, &product, store, out, err),
@@ -42,7 +49,7 @@ pub fn run<R: Threads + Sync, S: Store, O: Sink, E: Sink, G: Gate + Sync>(
     }
 }
 
-// Puts the cache, and then the line on standard output.
+// Puts the files in their order, and then the text on standard output.
 fn deliver<S: Store, O: Sink, E: Sink>(
     alloc: Global,
     product: &Product,
@@ -50,21 +57,33 @@ fn deliver<S: Store, O: Sink, E: Sink>(
     out: &mut O,
     err: &mut E,
 ) -> Status
-    ensures { Delivers product.now
+    ensures { Delivers (made_of product.now)
         (world (S.files store.old) (S.get_faults store.old) (S.put_faults store.old)
         (O.written out.old) (O.faults out.old) (E.written err.old) (E.faults err.old))
         (world (S.files store.new) (S.get_faults store.new) (S.put_faults store.new)
         (O.written out.new) (O.faults out.new) (E.written err.new) (E.faults err.new)) result }
 {
-    match store.put(alloc, product.name.as_str(), &product.cache) {
+    match put_files(alloc, &product.files, store) {
         Ok(()) => {}
         Err(PutFault::Failed) => return tell(cannot_write_text(), Status::WriteFault, err),
         Err(PutFault::Memory) => return tell(no_memory_text(), Status::Memory, err),
     }
-    if out.put(product.line.as_bytes()).is_err() {
+    if out.put(&product.text).is_err() {
         return tell(cannot_write_text(), Status::WriteFault, err);
     }
     Status::Done
+}
+
+// Puts the files in their order. The first that isn't put ends this.
+fn put_files<S: Store>(alloc: Global, files: &[NewFile], store: &mut S) -> Result<(), PutFault>
+    ensures all { OnOk result (S.files store.new ≡ with_files (S.files store.old) (new_files files.now)) }
+    ensures short { IfErr result (PutsShort (S.files store.old) (S.files store.new)
+        (S.put_faults store.old) (S.put_faults store.new) (new_files files.now)) }
+{
+    for file in files {
+        store.put(alloc, file.name.as_str(), &file.bytes)?;
+    }
+    Ok(())
 }
 
 // Says on standard error why the run stopped.
@@ -77,6 +96,7 @@ fn tell_stop<E: Sink>(alloc: Global, stop: Stop, err: &mut E) -> Status
         Stop::Memory => return tell(no_memory_text(), Status::Memory, err),
         Stop::Unread(input) => (cannot_read_text(alloc, input), Status::ReadFault),
         Stop::Refused(found) => (refused_text(alloc, &found), Status::Refused),
+        Stop::Flawed(found) => (flawed_text(alloc, &found), Status::Refused),
     };
     match text {
         Ok(text) => tell(text.as_str(), status, err),

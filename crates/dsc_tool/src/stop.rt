@@ -1,10 +1,10 @@
 // Why a run ends before anything is put.
 ghost use Rattle.std.specs.Prelude.{◌≡◌};
 ghost use Rattle.dsc_tool.specs.declared.stop.Stop.TheVariants as stops;
-ghost use Rattle.dsc_tool.specs.Stops.{words_stop, set_stop, get_stop};
+ghost use Rattle.dsc_tool.specs.Stops.{words_stop, set_stop, view_stop, get_stop, get_cache_stop};
 
 use crate::command::WordsFault;
-use dsc_base::{Break, GetFault, NoMemory, Rule, SetFault};
+use dsc_base::{Break, Finding, FindingKind, GetFault, NoMemory, Rule, SetFault, ViewFault};
 use std::alloc::{AllocError, AllocFailed};
 
 /// The most bytes that a file may have.
@@ -12,6 +12,9 @@ pub(crate) const FILE_LIMIT: u64 = 0x400_0000;
 
 /// The most bytes that the files may have together.
 pub(crate) const INPUT_LIMIT: u64 = 0x2000_0000;
+
+/// The most bytes that a cache may have that is read.
+pub(crate) const CACHE_LIMIT: u64 = 0x8000_0000;
 
 /// Why a run ends before anything is put.
 #[derive(Clone, Copy, Debug, PartialEq, Eq)]
@@ -22,6 +25,8 @@ pub enum Stop {
     Unread(u32),
     /// The files break this rule.
     Refused(Break),
+    /// The cache has this finding.
+    Flawed(Finding),
     /// Memory ran out.
     Memory,
 }
@@ -44,6 +49,17 @@ impl From<SetFault> for Stop {
         match fault {
             SetFault::Broken(found) => Stop::Refused(found),
             SetFault::Memory => Stop::Memory,
+        }
+    }
+}
+
+impl From<ViewFault> for Stop {
+    ghost from_gives = { λ fault stop. stop ≡ view_stop fault };
+
+    fn from(fault: ViewFault) -> Self {
+        match fault {
+            ViewFault::Broken(found) => Stop::Flawed(found),
+            ViewFault::Memory => Stop::Memory,
         }
     }
 }
@@ -72,16 +88,32 @@ impl<T: Drop> From<AllocFailed<T>> for Stop {
     }
 }
 
-/// Why the input with this number was not read. One of too many bytes breaks a rule.
-pub(crate) fn unread(input: u32, fault: GetFault) -> Stop
-    ensures { result ≡ get_stop input fault }
+/// Why the file with this number among the inputs, and this one among the files, was not read. One of too
+/// many bytes breaks a rule.
+pub(crate) fn unread_file(input: u32, file: u32, fault: GetFault) -> Stop
+    ensures { result ≡ get_stop input file fault }
 {
     match fault {
         GetFault::Absent | GetFault::Failed => Stop::Unread(input),
         GetFault::TooLarge => Stop::Refused(Break {
             rule: Rule::FileTooLarge,
-            image: input,
+            image: file,
             at: FILE_LIMIT,
+        }),
+        GetFault::Memory => Stop::Memory,
+    }
+}
+
+/// Why the cache was not read, which is input 0. Too many bytes are a finding.
+pub(crate) fn unread_cache(fault: GetFault) -> Stop
+    ensures { result ≡ get_cache_stop fault }
+{
+    match fault {
+        GetFault::Absent | GetFault::Failed => Stop::Unread(0),
+        GetFault::TooLarge => Stop::Flawed(Finding {
+            kind: FindingKind::CacheTooLarge,
+            image: 0,
+            at: CACHE_LIMIT,
         }),
         GetFault::Memory => Stop::Memory,
     }

@@ -1,6 +1,9 @@
+mod asking;
 mod dylibs;
+mod heads;
 mod pointers;
 mod refusals;
+mod words;
 
 use crate::{Status, run};
 use dsc_base::{
@@ -31,19 +34,35 @@ fn run_line<R: Threads + Sync, S: Store>(
     out_room: usize,
     err_room: usize,
 ) -> Result<Answer, Fail> {
-    let words = words_of(alloc, line)?;
+    let mut words = Vec::new(alloc);
+    for word in line.split_whitespace() {
+        words.push(word)?;
+    }
+    run_words(rt, alloc, &words, store, out_room, err_room)
+}
+
+// The same of these words.
+fn run_words<R: Threads + Sync, S: Store>(
+    rt: &R,
+    alloc: Global,
+    words: &[&str],
+    store: &mut S,
+    out_room: usize,
+    err_room: usize,
+) -> Result<Answer, Fail> {
+    let words = owned(alloc, words)?;
     let mut out = MemSink::with_room(alloc, out_room)?;
     let mut err = MemSink::with_room(alloc, err_room)?;
     let status = run(rt, alloc, &words, store, &mut out, &mut err, &OpenGate);
     Ok(Answer { status, out, err })
 }
 
-fn words_of(alloc: Global, line: &str) -> Result<Vec<String>, AllocError> {
-    let mut words = Vec::new(alloc);
-    for word in line.split_whitespace() {
-        words.push(String::from_str(alloc, word)?)?;
+fn owned(alloc: Global, words: &[&str]) -> Result<Vec<String>, AllocError> {
+    let mut owned = Vec::new(alloc);
+    for word in words {
+        owned.push(String::from_str(alloc, word)?)?;
     }
-    Ok(words)
+    Ok(owned)
 }
 
 // A store whose files are empty until one is too large. It doesn't tell its files, so it counts a fault.
@@ -74,45 +93,6 @@ impl Store for LargeStore {
     fn put(&mut self, _alloc: Global, _name: &str, _bytes: &[u8]) -> Result<(), PutFault> {
         Err(PutFault::Memory)
     }
-}
-
-const USAGE: &str = "usage: dsc build OUT IN...\n";
-
-#[test]
-fn words_that_are_no_command_are_told(rt: HostRuntime) -> Result<(), Fail> {
-    let alloc = rt.alloc();
-    for line in [
-        "",
-        "build",
-        "build c",
-        "built c A",
-        "build -c A",
-        "build c -",
-        "build c -A",
-        "build c A -B",
-        "build A A",
-        "build c A c",
-        "build c c A",
-        "--help",
-    ] {
-        let mut store = SoundStore::new(alloc);
-        let answer = run_line(&rt, alloc, line, &mut store, 99, 99)?;
-        assert_eq!(rt; answer.status, Status::BadWords, "{line}");
-        assert_eq!(rt; answer.err.bytes(), USAGE.as_bytes(), "{line}");
-        assert_eq!(rt; answer.out.bytes(), b"".as_slice(), "{line}");
-    }
-    // 4,096 inputs are a command, and one more is none.
-    let mut line = String::from_str(alloc, "build c")?;
-    for _ in 0..4096 {
-        line.push_str(" A")?;
-    }
-    let mut store = SoundStore::new(alloc);
-    let answer = run_line(&rt, alloc, line.as_str(), &mut store, 99, 99)?;
-    assert_eq!(rt; answer.status, Status::ReadFault);
-    line.push_str(" A")?;
-    let answer = run_line(&rt, alloc, line.as_str(), &mut store, 99, 99)?;
-    assert_eq!(rt; answer.status, Status::BadWords);
-    Ok(())
 }
 
 // What a run over a store with the empty file A says, where the gets and puts with these numbers fail.
@@ -261,10 +241,8 @@ fn other_files_are_refused(rt: HostRuntime) -> Result<(), Fail> {
         file.truncate(length);
         is_refused(&rt, alloc, file, want)?;
     }
-    // universal files aren't read yet
-    let mut universal = still_dylib(alloc, 0x642E_612F)?;
-    put_all(&mut universal, &[(0x0, 0xBEBA_FECA)]);
-    is_refused(&rt, alloc, universal, "190 NotYet image 0 at 0x0")?;
+    let other = universal_file(alloc, 7)?;
+    is_refused(&rt, alloc, other, "4 NoSlice image 0 at 0x0")?;
     let mut crossing = data_dylib(alloc, 0x2000)?;
     put_all(&mut crossing, &AT_THE_EDGE);
     put_all(&mut crossing, &[(0x3000, 0x1FFC_2111)]);
@@ -278,6 +256,43 @@ fn other_files_are_refused(rt: HostRuntime) -> Result<(), Fail> {
         large,
         "171 LinkeditTooLarge image 0 at 0x20000000",
     )
+}
+
+// A universal file with an entry for i386, and behind it one for this processor, of the dylib with data.
+fn universal_file(alloc: Global, processor: u32) -> Result<Vec<u8>, NoMemory> {
+    let mut file = Vec::new(alloc);
+    file.resize(0x1000, 0)?;
+    put_all(
+        &mut file,
+        &[
+            (0x0, 0xBEBA_FECA),
+            (0x4, 0x0200_0000),
+            (0x8, 0x0700_0000),
+            (0x10, 0x0010_0000),
+            (0x14, 0x0010_0000),
+            (0x1C, processor.swap_bytes()),
+            (0x24, 0x0010_0000),
+            (0x28, 0x4020_0000),
+        ],
+    );
+    file.extend_from_slice(&data_dylib(alloc, 0x1000)?)?;
+    Ok(file)
+}
+
+#[test]
+fn a_universal_file_is_built_as_its_slice(rt: HostRuntime) -> Result<(), Fail> {
+    let alloc = rt.alloc();
+    let mut store = MemStore::new(alloc);
+    store.insert("A", data_dylib(alloc, 0x1000)?)?;
+    store.insert("U", universal_file(alloc, 0x0100_0007)?)?;
+    run_line(&rt, alloc, "build c A", &mut store, 99, 99)?;
+    let answer = run_line(&rt, alloc, "build d U", &mut store, 99, 99)?;
+    assert_eq!(rt;
+        answer.out.bytes(),
+        b"built 1 images, span 0x5000\n".as_slice()
+    );
+    assert_eq!(rt; store.file("d"), store.file("c"));
+    Ok(())
 }
 
 // In the dylib with two pages of data: six bytes of rebases, of which the last is a word at the end of the first page.

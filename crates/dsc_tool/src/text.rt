@@ -1,16 +1,16 @@
-// The lines that a run prints.
+// What a run prints, but for what it tells of a cache.
 ghost use Rattle.std.specs.Prelude.{◌≡◌, IfOk, string_bytes};
-ghost use Rattle.dsc_tool.specs.Texts.{usage_line, cannot_write_line, no_memory_line, cannot_read_line, refused_line, built_line};
+ghost use Rattle.dsc_tool.specs.Texts.{usage_text, cannot_write_line, no_memory_line, cannot_read_line, refused_line, flawed_line, built_line};
 
-use dsc_base::{Break, NoMemory};
+use dsc_base::{Break, Finding, NoMemory};
 use std::alloc::Global;
 
 /// How the program is called.
-#[tactic(auto, unfolding(crate::specs::Texts::usage_line))]
+#[tactic(auto, unfolding(crate::specs::Texts::usage_text))]
 pub(crate) fn usage_text() -> &'static str
-    ensures { result.now ≡ usage_line }
+    ensures { result.now ≡ usage_text }
 {
-    "usage: dsc build OUT IN...\n"
+    "usage: dsc build [--jobs N] OUT IN...\n       dsc list CACHE\n       dsc info CACHE\n"
 }
 
 /// A file or standard output was not written.
@@ -46,6 +46,17 @@ pub(crate) fn refused_text(alloc: Global, found: &Break) -> Result<String, NoMem
     let number = rule.number();
     let name = rule.text();
     Ok(format!(in alloc; "dsc: refused {number} {name} image {image} at 0x{at:x}\n")?)
+}
+
+/// The cache has this finding.
+#[tactic(auto, unfolding(crate::specs::Texts::flawed_line))]
+pub(crate) fn flawed_text(alloc: Global, found: &Finding) -> Result<String, NoMemory>
+    ensures { IfOk result (λ text. string_bytes text ≡ flawed_line found.now) }
+{
+    let Finding { kind, image, at } = *found;
+    let number = kind.number();
+    let name = kind.text();
+    Ok(format!(in alloc; "dsc: cache broken {number} {name} image {image} at 0x{at:x}\n")?)
 }
 
 /// So many images were built to a cache of this span, in bytes.

@@ -1,5 +1,5 @@
-use Rattle.std.proofs.Common.{◌≡◌, map, string_bytes, take}
+use Rattle.std.proofs.Common.{◌≡◌, map, take}
 use Rattle.dsc_tool.proofs.command.copy_names.Given as goal
 
 abbrev pub invariant-loop-name : goal.invariant-loop-name
-invariant-loop-name l = l.copies.items ≡ take l.name-index (map string_bytes l.names)
+invariant-loop-name l = l.copies.items ≡ take l.name-index (map (λ name. name.now) l.names)

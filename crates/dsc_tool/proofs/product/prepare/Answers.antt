@@ -1,17 +1,47 @@
-use Rattle.std.proofs.Common.{◌≡◌, ◌≤◌, ℕ, List, length, sym, subst, arith, rules}
-use Rattle.std.specs.Prelude.{All, Vec}
-use Rattle.std.specs.declared.alloc.Global.{Global}
-use Rattle.dsc_tool.specs.Stops.{file_limit}
-use Rattle.dsc_tool.proofs.InputLaws.{read_count, read_small}
+-- An order is a build, or a text on the head of a cache.
+use Rattle.std.proofs.Common.{◌≡◌, ◌∙◌, ℕ, List, Option, Some, refl, ap, sym, map, string_bytes, Global}
+use Rattle.std.proofs.lemmas.Result.{IfErr-weaker, IfOk-weaker}
+use Rattle.dsc_tool.specs.declared.command.Command.{Command}
+use Rattle.dsc_tool.specs.Steps.{made_of}
+use Rattle.dsc_tool.specs.Texts.{list_text, info_text}
+use Rattle.dsc_tool.specs.Words.{Order, build, list, info, command_of, order_of}
+use Rattle.dsc_tool.proofs.ProductLaws.{build_product, build_due, text_product, head_due}
 use Rattle.dsc_tool.proofs.product.prepare.Goals as goal
 
-pub build-requires-clause-sizes : goal.build-requires-clause-sizes
-build-requires-clause-sizes g c κs within =
-    subst (λ (fs : List (Vec ℕ Global)). All (λ (f : Vec ℕ Global). length f.items ≤ file_limit) fs) (sym c.deref-2.ensures.value)
-    (read_small (g.S.Store.files c.args.store.now) c.deref.result.now c.in_ok-files.files.items c.in_ok-files.ensures.read)
+pub returns-in-Build-clause-product : goal.returns-in-Build-clause-product
+returns-in-Build-clause-product g c =
+    let spelled : command_of (map (string_bytes {Z = Global}) c.args.words.now) ≡ Some (build c.in-Build.options c.in-Build.out c.deref.result.now) =
+    c.in_ok-options.ensures.spelled ∙ (ap (λ (x : Command). Some (order_of x)) c.in-Build.is ∙ ap (λ (l : List (List ℕ)). Some (build c.in-Build.options c.in-Build.out l)) (sym c.deref.ensures.value)) in
+    IfOk-weaker c.prepare_build.result _ _ (λ p works. build_product _ _ c.in-Build.options c.in-Build.out c.deref.result.now (made_of p) spelled works) c.prepare_build.ensures.product
 
-pub overflow_cast-len : goal.overflow_cast-len
-overflow_cast-len g c =
-    let few : length c.deref.result.now ≤ 4096 = search rules in
-    let count : length c.in_ok-files.files.items ≡ length c.deref.result.now = read_count (g.S.Store.files c.args.store.now) c.deref.result.now c.in_ok-files.files.items c.in_ok-files.ensures.read in
-    omega (arith, few, count, c.len.ensures, c.in_ok-files.files.ok)
+pub returns-in-Build-clause-stop : goal.returns-in-Build-clause-stop
+returns-in-Build-clause-stop g c =
+    let spelled : command_of (map (string_bytes {Z = Global}) c.args.words.now) ≡ Some (build c.in-Build.options c.in-Build.out c.deref.result.now) =
+    c.in_ok-options.ensures.spelled ∙ (ap (λ (x : Command). Some (order_of x)) c.in-Build.is ∙ ap (λ (l : List (List ℕ)). Some (build c.in-Build.options c.in-Build.out l)) (sym c.deref.ensures.value)) in
+    IfErr-weaker c.prepare_build.result _ _ (λ stop cause. build_due _ _ _ _ c.in-Build.options c.in-Build.out c.deref.result.now stop spelled cause) c.prepare_build.ensures.stop
+
+pub returns-in-List-clause-product : goal.returns-in-List-clause-product
+returns-in-List-clause-product g c =
+    let spelled : command_of (map (string_bytes {Z = Global}) c.args.words.now) ≡ Some (list c.as_str.result.now) =
+    c.in_ok-options.ensures.spelled ∙ (ap (λ (x : Command). Some (order_of x)) c.in-List.is ∙ ap (λ (n : List ℕ). Some (list n)) (sym c.as_str.ensures)) in
+    IfOk-weaker c.prepare_list.result _ _ (λ p works. text_product (list c.as_str.result.now) list_text c.as_str.result.now refl (λ bytes. refl) _ _ spelled (made_of p) (λ bytes. tt) works)
+    c.prepare_list.ensures.product
+
+pub returns-in-List-clause-stop : goal.returns-in-List-clause-stop
+returns-in-List-clause-stop g c =
+    let spelled : command_of (map (string_bytes {Z = Global}) c.args.words.now) ≡ Some (list c.as_str.result.now) =
+    c.in_ok-options.ensures.spelled ∙ (ap (λ (x : Command). Some (order_of x)) c.in-List.is ∙ ap (λ (n : List ℕ). Some (list n)) (sym c.as_str.ensures)) in
+    IfErr-weaker c.prepare_list.result _ _ (λ stop cause. head_due (list c.as_str.result.now) list_text c.as_str.result.now refl (λ bytes. refl) _ _ spelled _ _ stop cause) c.prepare_list.ensures.stop
+
+pub returns-in-Info-clause-product : goal.returns-in-Info-clause-product
+returns-in-Info-clause-product g c =
+    let spelled : command_of (map (string_bytes {Z = Global}) c.args.words.now) ≡ Some (info c.as_str-in-Info.result.now) =
+    c.in_ok-options.ensures.spelled ∙ (ap (λ (x : Command). Some (order_of x)) c.in-Info.is ∙ ap (λ (n : List ℕ). Some (info n)) (sym c.as_str-in-Info.ensures)) in
+    IfOk-weaker c.prepare_info.result _ _ (λ p works. text_product (info c.as_str-in-Info.result.now) info_text c.as_str-in-Info.result.now refl (λ bytes. refl) _ _ spelled (made_of p) (λ bytes. tt) works)
+    c.prepare_info.ensures.product
+
+pub returns-in-Info-clause-stop : goal.returns-in-Info-clause-stop
+returns-in-Info-clause-stop g c =
+    let spelled : command_of (map (string_bytes {Z = Global}) c.args.words.now) ≡ Some (info c.as_str-in-Info.result.now) =
+    c.in_ok-options.ensures.spelled ∙ (ap (λ (x : Command). Some (order_of x)) c.in-Info.is ∙ ap (λ (n : List ℕ). Some (info n)) (sym c.as_str-in-Info.ensures)) in
+    IfErr-weaker c.prepare_info.result _ _ (λ stop cause. head_due (info c.as_str-in-Info.result.now) info_text c.as_str-in-Info.result.now refl (λ bytes. refl) _ _ spelled _ _ stop cause) c.prepare_info.ensures.stop

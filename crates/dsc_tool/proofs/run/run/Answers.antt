@@ -14,4 +14,4 @@ returns-in-Err-clause-ran g c =
     ran _ _ _ _ (ends-stopped _ _ _ c.in-Err.stop _ c.in-Err.ensures.stop c.in-Err.ensures.files refl c.tell_stop.ensures)
 
 pub returns-in-Ok-clause-built : goal.returns-in-Ok-clause-built
-returns-in-Ok-clause-built g c = λ files told done. done-built _ files _ _ _ told done (returns-in-Ok-clause-ran g c).ends
+returns-in-Ok-clause-built g c = λ files options name inputs told spelled done. done-built _ files _ _ options name inputs _ told spelled done (returns-in-Ok-clause-ran g c).ends

@@ -3,18 +3,18 @@ use Rattle.std.proofs.Common.{◌≡◌, ◌≤◌, ◌+◌, ◌++◌, ℕ, List
 use Rattle.std.proofs.lemmas.Result.{err_from_is_err_and}
 use Rattle.dsc_base.specs.Outside.{Files, HasFile}
 use Rattle.load_model.specs.Phases.{contents}
-use Rattle.dsc_tool.specs.Inputs.{AreRead, InputCause, total}
+use Rattle.dsc_tool.specs.Inputs.{AreRead, FileCause, total}
 use Rattle.dsc_tool.specs.Stops.{input_limit}
 use Rattle.dsc_tool.proofs.InputLaws.{same_item, read_more, total_more, contents_more, stopped_at}
-use Rattle.dsc_tool.proofs.inputs.read_inputs.Goals as goal
+use Rattle.dsc_tool.proofs.inputs.read_files.Goals as goal
 
 pub returns-in_err-input-clause-cause : goal.returns-in_err-input-clause-cause
 returns-in_err-input-clause-cause g c =
     let p = err_from_is_err_and c.from_residual-in_err-input.result c.from_residual-in_err-input.ensures.1 in
-    let cause = subst (λ (f : Option Files). InputCause f (g.S.Store.get_faults c.loop-number.store) (g.S.Store.get_faults c.read_input.new.store) c.as_str.result.now c.loop-number.number c.loop-number.total c.in_err-input.field-0.0)
+    let cause = subst (λ (f : Option Files). FileCause f (g.S.Store.get_faults c.loop-number.store) (g.S.Store.get_faults c.read_file.new.store) c.args.first c.as_str.result.now c.loop-number.number c.loop-number.total c.in_err-input.field-0.0)
     c.loop-number.invariant.files c.in_err-input.ensures.cause in
     rw (p.1, p.2)
-    (stopped_at (g.S.Store.files c.args.store.now) (g.S.Store.get_faults c.args.store.now) (g.S.Store.get_faults c.loop-number.store) (g.S.Store.get_faults c.read_input.new.store)
+    (stopped_at (g.S.Store.files c.args.store.now) (g.S.Store.get_faults c.args.store.now) (g.S.Store.get_faults c.loop-number.store) (g.S.Store.get_faults c.read_file.new.store) c.args.first
     c.args.names.now c.loop-number.number c.as_str.result.now (contents c.loop-number.inputs.items) c.loop-number.total c.in_err-input.field-0.0
     (omega arith) (same_item c.args.names.now c.loop-number.number c.index-names-number.result c.as_str.result.now c.as_str.ensures c.index-names-number.is)
     c.loop-number.invariant.read c.loop-number.invariant.size c.loop-number.invariant.gets cause)
@@ -33,7 +33,7 @@ loop-number-preserved g c =
           (same_item c.args.names.now c.loop-number.number c.index-names-number.result c.as_str.result.now c.as_str.ensures c.index-names-number.is)
           c.loop-number.invariant.read there c.in_ok-input.ensures.within fits);
       size = ap₂ (λ (a b : ℕ). a + b) c.loop-number.invariant.size size ∙ (sym (total_more before file) ∙ ap total (sym more));
-      files = c.read_input.ensures.files ∙ c.loop-number.invariant.files;
-      gets = omega (arith, c.loop-number.invariant.gets, c.read_input.ensures.get_count);
-      puts = c.read_input.ensures.put_count ∙ c.loop-number.invariant.puts;
+      files = c.read_file.ensures.files ∙ c.loop-number.invariant.files;
+      gets = omega (arith, c.loop-number.invariant.gets, c.read_file.ensures.get_count);
+      puts = c.read_file.ensures.put_count ∙ c.loop-number.invariant.puts;
     }

@@ -1,8 +1,8 @@
--- The inputs up to this one are read, and the store is as before but for its count of failed gets.
+-- The files up to this one are read, and the store is as before but for its count of failed gets.
 use Rattle.std.proofs.Common.{◌≡◌, ◌≤◌, take}
 use Rattle.load_model.specs.Phases.{contents}
 use Rattle.dsc_tool.specs.Inputs.{AreRead, total}
-use Rattle.dsc_tool.proofs.inputs.read_inputs.Given as goal
+use Rattle.dsc_tool.proofs.inputs.read_files.Given as goal
 
 abbrev pub invariant-loop-number : goal.invariant-loop-number
 invariant-loop-number g l = record {

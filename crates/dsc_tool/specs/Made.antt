@@ -1,0 +1,52 @@
+-- What an order comes to, by the bytes of its inputs.
+use Rattle.std.specs.Prelude.{◌≡◌, ℕ, List, [], ◌∷◌, length, Option, Some, None, unwrap_or, Result, Ok, Err}
+use Rattle.dsc_base.specs.declared.fault.Break.{Break}
+use Rattle.dsc_base.specs.declared.fault.Finding.{Finding}
+use Rattle.cache_header.specs.Findings.{head_finding}
+use Rattle.cache_header.specs.Reading.{span, head_read}
+use Rattle.cache_header.specs.Records.{Head}
+use Rattle.cache_build.specs.Always.{CorrespondsAlways}
+use Rattle.cache_build.specs.Breaks.{set_break}
+use Rattle.cache_build.specs.Built.{built}
+use Rattle.dsc_tool.specs.Options.{delta_bits}
+use Rattle.dsc_tool.specs.Inputs.{Contents}
+use Rattle.dsc_tool.specs.Texts.{built_line, list_text, info_text}
+use Rattle.dsc_tool.specs.Words.{Order, build, list, info}
+use Rattle.dsc_tool.specs.declared.stop.Stop.{Stop}
+use Rattle.dsc_tool.specs.declared.stop.Stop.TheVariants.{Refused, Flawed}
+
+-- files to put, each by its name and its bytes, in their order, and then a text for standard output
+pub record Made : Type 0 where
+  pub files : List (List ℕ × List ℕ)
+  pub text : List ℕ
+
+-- the cache of files that are accepted, and a line that tells of it
+abbrev pub cache_made : List ℕ → List (List ℕ) → Made
+cache_made out files = record {
+  files = (out, built delta_bits files) ∷ [];
+  text = built_line (length files) (span (built delta_bits files));
+}
+
+-- of files, by the first rule that they break
+abbrev pub build_made : List ℕ → List (List ℕ) → Option Break → Result Made Stop
+build_made out files (Some b) = Err (Refused b)
+build_made out files None = Ok (cache_made out files)
+
+-- a text on a cache, by the first finding in its head
+abbrev pub text_made : (Head → List ℕ) → List ℕ → Option Finding → Result Made Stop
+text_made text cache (Some f) = Err (Flawed f)
+text_made text cache None = Ok record { files = []; text = text (head_read cache) }
+
+abbrev pub head_made : (Head → List ℕ) → List ℕ → Result Made Stop
+head_made text cache = text_made text cache (head_finding cache)
+
+abbrev pub made : Order → Contents → Result Made Stop
+made (build options out names) c = build_made out c.files (set_break delta_bits c.files)
+made (list name) c = head_made list_text (unwrap_or c.cache [])
+made (info name) c = head_made info_text (unwrap_or c.cache [])
+
+-- what is true of it: the cache that is built corresponds to its files
+abbrev pub Promised : Order → Contents → Type 0
+Promised (build options out names) c = CorrespondsAlways c.files (built delta_bits c.files)
+Promised (list name) c = Unit {0}
+Promised (info name) c = Unit {0}
