@@ -64,12 +64,14 @@ pub short_at : (before since after : Option Files) (old mid new : ℕ) (files : 
     → file ≡ get_or files i file → name ≡ file.name → bytes ≡ file.bytes.items → since ≡ with_files before (take i (new_files files)) → old ≤ mid
     → PutCause since after mid new name bytes fault → PutsShort before after old new (new_files files) fault
 short_at before since after old mid new files i file name bytes Failed inside is same_name same_bytes so_far le (rose, left) =
-    let longer : i < length (new_files files) = omega (arith, as_many files, inside) in
-    (rose_since old mid new le rose, record {
-      count = i;
-      inside = longer;
-      left = subst (λ (f : List ℕ × List ℕ). LeavesPrefix (with_files before (take i (new_files files))) after f.0 f.1) (sym (listed files i file name bytes inside is same_name same_bytes))
-          (subst (λ (s : Option Files). LeavesPrefix s after name bytes) so_far left);
-    })
+    let longer : i < length (new_files files) = omega (arith, as_many files, inside) in (
+      rose_since old mid new le rose,
+      record {
+        count = i;
+        inside = longer;
+        left = subst (λ (f : List ℕ × List ℕ). LeavesPrefix (with_files before (take i (new_files files))) after f.0 f.1) (sym (listed files i file name bytes inside is same_name same_bytes))
+            (subst (λ (s : Option Files). LeavesPrefix s after name bytes) so_far left);
+      },
+    )
 short_at before since after old mid new files i file name bytes Memory inside is same_name same_bytes so_far le (left, same) =
     record { count = i; inside = omega (arith, as_many files, inside); left = left ∙ so_far }

@@ -1,10 +1,7 @@
 -- What the parts of a preparation leave, as what the words come to.
-use Rattle.std.proofs.Common.{◌≡◌, ◌≤◌, ◌⊎◌, ℕ, List, [], ◌∷◌, length, Option, Some, None, Result, Ok, Err, refl, ap, sym, ◌∙◌, subst, inl, inr, arith}
+use Rattle.std.proofs.Common.{◌≡◌, ◌≤◌, ℕ, List, [], length, Option, Some, None, Result, Ok, Err, ap, sym, ◌∙◌, subst, inl, inr, arith}
 use Rattle.dsc_base.specs.Outside.{Files, HasFile}
 use Rattle.dsc_base.specs.declared.fault.Break.{Break}
-use Rattle.dsc_base.specs.declared.fault.Finding.{Finding}
-use Rattle.cache_header.specs.Findings.{head_finding}
-use Rattle.cache_header.specs.Reading.{head_read}
 use Rattle.cache_header.specs.Records.{Head}
 use Rattle.cache_build.specs.Breaks.{set_break}
 use Rattle.cache_build.specs.declared.builder.Options.{Options}
@@ -12,8 +9,8 @@ use Rattle.dsc_tool.specs.Options.{delta_bits}
 use Rattle.dsc_tool.specs.declared.stop.Stop.{Stop}
 use Rattle.dsc_tool.specs.declared.stop.Stop.TheVariants.{BadWords, Unread, Refused, Flawed, Memory}
 use Rattle.dsc_tool.specs.Causes.{IsRead, IsMade, IsDue}
-use Rattle.dsc_tool.specs.Inputs.{AreRead, Contents, FilesCause, CacheCause, InputsAreRead, Names, inputs_of}
-use Rattle.dsc_tool.specs.Made.{Made, Promised, build_made, cache_made, head_made, made, text_made}
+use Rattle.dsc_tool.specs.Inputs.{AreRead, Contents, CacheCause, InputsAreRead, Names, inputs_of}
+use Rattle.dsc_tool.specs.Made.{Made, Promised, build_made, head_made, made, text_made}
 use Rattle.dsc_tool.specs.Steps.{BuildStop, BuildWorks, HeadStop, TextWorks}
 use Rattle.dsc_tool.specs.Stops.{cache_limit}
 use Rattle.dsc_tool.specs.Words.{Order, build, command_of}

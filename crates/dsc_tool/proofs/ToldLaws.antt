@@ -1,7 +1,7 @@
 -- How a run over told files stands to its output.
-use Rattle.std.proofs.Common.{◌≡◌, ◌<◌, ◌⊎◌, ℕ, List, [], ◌∷◌, Option, Some, None, Result, Ok, Err, refl, ap, sym, ◌∙◌, subst, inl, inr}
+use Rattle.std.proofs.Common.{◌≡◌, ◌⊎◌, ℕ, List, [], ◌∷◌, Option, Some, None, Result, Ok, Err, refl, ap, sym, ◌∙◌, subst, inl, inr}
 use Rattle.std.specs.FinMap.{insert}
-use Rattle.dsc_base.specs.Outside.{Files, AppendsPrefix, with_file}
+use Rattle.dsc_base.specs.Outside.{Files, AppendsPrefix}
 use Rattle.dsc_base.specs.declared.fault.Break.{Break}
 use Rattle.cache_build.specs.Breaks.{set_break}
 use Rattle.cache_build.specs.Built.{built}

@@ -20,7 +20,7 @@ use Rattle.dsc_tool.specs.Statuses.{status_of}
 use Rattle.dsc_tool.specs.Steps.{IsDelivered, IsUndelivered, IsUnput}
 use Rattle.dsc_tool.specs.Streams.{World, AnyRose, appended}
 use Rattle.dsc_tool.specs.Texts.{text_of, cannot_read_line, cannot_write_line, no_memory_line}
-use Rattle.dsc_tool.specs.Words.{Order, build, command_of}
+use Rattle.dsc_tool.specs.Words.{Order, command_of}
 
 -- The words spell an order, its inputs are read, and it came to this, of which is true what is promised.
 pub record IsWorked (words : List (List ℕ)) (files : Option Files) : Type 0 where

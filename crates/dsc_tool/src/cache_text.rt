@@ -68,9 +68,9 @@ fn mapping_text(alloc: Global, mapping: &Mapping) -> Result<String, NoMemory>
         max_prot,
         init_prot,
     } = *mapping;
-    Ok(
-        format!(in alloc; "mapping 0x{address:x} size 0x{size:x} file 0x{file:x} prot {max_prot}/{init_prot}\n")?,
-    )
+    Ok(format!(in alloc;
+        "mapping 0x{address:x} size 0x{size:x} file 0x{file:x} prot {max_prot}/{init_prot}\n"
+    )?)
 }
 
 #[tactic(auto, unfolding(crate::specs::Texts::images_line))]

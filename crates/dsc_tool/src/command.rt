@@ -19,9 +19,13 @@ pub enum Command {
         inputs: Vec<Text>,
     },
     /// Lists the images of a cache.
-    List { cache: Text },
+    List {
+        cache: Text,
+    },
     /// Tells what the head of a cache says.
-    Info { cache: Text },
+    Info {
+        cache: Text,
+    },
 }
 
 /// Why the words gave no command.

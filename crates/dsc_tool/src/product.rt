@@ -81,7 +81,9 @@ fn one_file(alloc: Global, name: Text, bytes: Vec<u8>, line: String) -> Result<P
     ensures { IfOk result (λ p. made_of p ≡ record { files = (name, bytes.items) ∷ []; text = string_bytes line }) }
 {
     let mut files = Vec::new(alloc);
-    files.push(NewFile { name, bytes }).map_err(AllocError::from)?;
+    files
+        .push(NewFile { name, bytes })
+        .map_err(AllocError::from)?;
     Ok(Product {
         files,
         text: line.into_bytes(),

@@ -1,5 +1,5 @@
 -- What clap holds between two words.
-use Rattle.std.proofs.Common.{◌≡◌, ◌++◌, ℕ, List, [], ◌∷◌, Bool, true, false, Option, Some, None, codes, refl}
+use Rattle.std.proofs.Common.{◌≡◌, ◌++◌, List, [], ◌∷◌, Bool, true, false, Option, Some, None, codes, refl}
 use Rattle.clap.specs.declared.parser.matches.ValueSource.TheVariants.{CommandLine}
 use Rattle.clap.specs.declared.builder.value_parser.ValueParser.TheVariants as vp
 use Rattle.clap.specs.declared.error.kind.ErrorKind.TheVariants as kind
@@ -16,18 +16,44 @@ rules long = (built (words_app long)).top.rules
 
 abbrev pub value_filled : Text → Rule
 value_filled long = record {
-  id = codes "value"; long = Some long; aliases = []; short = None; short_aliases = []; index = None;
-  action = Some Set; range = Some (record { start_inclusive = 1; end_inclusive = 1 });
-  value_names = 0; defaults = []; missing = []; trailing_var_arg = false; parser = Some vp.String;
-  ignore_case = false; required = false; is_simple = true; is_free = true;
+  id = codes "value";
+  long = Some long;
+  aliases = [];
+  short = None;
+  short_aliases = [];
+  index = None;
+  action = Some Set;
+  range = Some (record { start_inclusive = 1; end_inclusive = 1 });
+  value_names = 0;
+  defaults = [];
+  missing = [];
+  trailing_var_arg = false;
+  parser = Some vp.String;
+  ignore_case = false;
+  required = false;
+  is_simple = true;
+  is_free = true;
 }
 
 abbrev pub plain_filled : Rule
 plain_filled = record {
-  id = codes "plain"; long = None; aliases = []; short = None; short_aliases = []; index = Some 1;
-  action = Some Append; range = Some (record { start_inclusive = 1; end_inclusive = 1 });
-  value_names = 0; defaults = []; missing = []; trailing_var_arg = false; parser = Some vp.String;
-  ignore_case = false; required = false; is_simple = true; is_free = true;
+  id = codes "plain";
+  long = None;
+  aliases = [];
+  short = None;
+  short_aliases = [];
+  index = Some 1;
+  action = Some Append;
+  range = Some (record { start_inclusive = 1; end_inclusive = 1 });
+  value_names = 0;
+  defaults = [];
+  missing = [];
+  trailing_var_arg = false;
+  parser = Some vp.String;
+  ignore_case = false;
+  required = false;
+  is_simple = true;
+  is_free = true;
 }
 
 rules_with : (long : Text) → rules (Some long) ≡ value_filled long ∷ plain_filled ∷ []

@@ -1,19 +1,18 @@
 -- One option of clap's walk over the words.
-use Rattle.std.proofs.Common.{◌≡◌, ◌++◌, ℕ, zero, suc, List, [], ◌∷◌, length, Bool, true, false, cond, ◌||◌, Option, Some, None, codes, refl, ap, ap₂, sym, ◌∙◌}
+use Rattle.std.proofs.Common.{◌≡◌, ℕ, suc, [], ◌∷◌, Bool, true, false, cond, ◌||◌, Option, Some, None, codes, refl, ap, sym, ◌∙◌}
 use Rattle.std.specs.Prelude.{if◌then◌else◌, slice_get}
 use Rattle.std.specs.Option.{option_map_or}
 use Rattle.std.specs.Str.{bytes_eq, chars}
 use Rattle.clap.specs.Kinds.{Kinds, or_else}
 use Rattle.clap.specs.declared.error.kind.ErrorKind.{ErrorKind}
 use Rattle.clap.specs.declared.error.kind.ErrorKind.TheVariants as kind
-use Rattle.clap.specs.Lexer.{long_of, short_of}
-use Rattle.clap.specs.Walk.{Held, Row, Rule, Step, Text, Waiting, Walk, idle, option, used, settled, walked, arg_by_long, long_word, after_step, after_flag, long_met}
-use Rattle.clap.specs.Simple.{Shape}
+use Rattle.clap.specs.Lexer.{long_of}
+use Rattle.clap.specs.Walk.{Held, Rule, Step, Text, Waiting, idle, option, used, settled, walked, arg_by_long, after_step, after_flag, long_met}
 use Rattle.clap.specs.Faults.{settle_fault, turn_fault, use_fault, flags_fault, long_fault, step_fault, flag_word_fault, bundle_fault, bundle_step_fault}
 use Rattle.dsc_tool.proofs.Clap.WordForms.{named, IsLong, IsShort}
-use Rattle.dsc_tool.proofs.Clap.Held.{Seen, rules, rows_of, plain_filled, value_filled, seen_value, has_value, repeat_end, value_fault, use_value}
-use Rattle.dsc_tool.proofs.Clap.Walked.{Pending, none, awaited, value, pending_of, Suits, Fails, held, state, counts, counted, shape, settles, counted_rows}
-use Rattle.dsc_tool.proofs.Clap.Turns.{Wait, waits, for_value, turn_by, turn_is, walked_is, long_turn, met_long}
+use Rattle.dsc_tool.proofs.Clap.Held.{Seen, rules, value_filled}
+use Rattle.dsc_tool.proofs.Clap.Walked.{Pending, Fails, held, state, shape}
+use Rattle.dsc_tool.proofs.Clap.Turns.{Wait, waits, turn_is, walked_is, long_turn, met_long}
 
 pub fails_one : (k : ErrorKind) (ks : Kinds) → Fails (k ∷ ks)
 fails_one k ks is = absurd cc
@@ -51,7 +50,7 @@ pub unknown_turn : (long : Option Text) (w : Wait) (p : Pending) (e : Seen) (wor
     → Fails (turn_fault (shape long) [] (state false (waits w) p e) word)
 unknown_turn long w p e word name joined is other =
     fails_as _ _ (long_turn (shape long) w p e word name joined is)
-    (fails_first _ _ (fails_as _ _ 
+    (fails_first _ _ (fails_as _ _
     (ap (λ (b : Bool). long_fault (rules long) b (arg_by_long (rules long) name) joined (held p e)) (again_not long)
     ∙ (ap (λ (a : Option Rule). long_fault (rules long) false a joined (held p e)) (found_is long name) ∙ unknown_fault long joined (held p e) (named long name) other))
     (fails_one kind.UnknownArgument [])))

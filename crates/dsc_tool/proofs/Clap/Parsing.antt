@@ -1,14 +1,14 @@
 -- What a parse of the words gives, by the definition of their parts.
-use Rattle.std.proofs.Common.{◌≡◌, ◌++◌, ℕ, List, [], ◌∷◌, Bool, true, false, not, ◌&&◌, ◌||◌, Option, Some, None, codes, refl, ap, ap₂, sym, ◌∙◌, subst}
+use Rattle.std.proofs.Common.{◌≡◌, List, [], ◌∷◌, Bool, true, false, ◌||◌, Option, Some, None, codes, refl, ap, ap₂, sym, ◌∙◌, subst}
 use Rattle.std.specs.Prelude.{if◌then◌else◌, unwrap_or, fold}
 use Rattle.std.specs.Prelude.{String, string_bytes, map}
-use Rattle.std.proofs.Common.{Global, ◌⊎◌, inl, inr}
+use Rattle.std.proofs.Common.{Global, inl, inr}
 use Rattle.std.proofs.lemmas.Str.{IsUtf8-string_bytes}
 use Rattle.clap.specs.Kinds.{HasKind, IsAmong, Kinds, or_else}
 use Rattle.clap.specs.Values.{kind_of}
 use Rattle.clap.specs.Walk.{rows_of as rows_found}
 use Rattle.clap.specs.Simple.{HasMatchesOf}
-use Rattle.clap.specs.Matches.{found_of, matched_of, raw_values}
+use Rattle.clap.specs.Matches.{matched_of, raw_values}
 use Rattle.clap.specs.declared.parser.matches.Found.{Found}
 use Rattle.clap.specs.declared.parser.matches.ArgMatches.{ArgMatches}
 use Rattle.clap.proofs.WalkLemmas.{raw_values-rows}
@@ -19,7 +19,7 @@ use Rattle.dsc_tool.specs.declared.command.WordsFault.TheVariants.{BadWords, Mem
 use Rattle.clap.specs.declared.error.Error.{Error}
 use Rattle.clap.specs.declared.error.kind.ErrorKind.{ErrorKind}
 use Rattle.clap.specs.declared.error.kind.ErrorKind.TheVariants.{OutOfMemory}
-use Rattle.clap.specs.Walk.{Held, Row, Rule, Text, all_of, first_of, finished, has_row, idle, nothing_held, settled, walk, walk_from, with_default}
+use Rattle.clap.specs.Walk.{Held, Row, Text, all_of, first_of, finished, has_row, idle, nothing_held, settled, with_default}
 use Rattle.clap.specs.Simple.{App, built, is_simple, matches_of}
 use Rattle.clap.specs.Faults.{check_fault, defaults_fault, fault_of, is_simple_and_free, level_fault, settle_fault, walk_fault}
 use Rattle.clap.proofs.FaultLemmas.{leaf_fault}
@@ -29,7 +29,7 @@ use Rattle.dsc_tool.specs.Words.{IsWordsFault}
 use Rattle.dsc_tool.proofs.Clap.Held.{Seen, nothing, value, plain, value_plain, plain_value, value_filled, rules, rows_of}
 use Rattle.dsc_tool.proofs.Clap.Walked.{Fails, none, shape, state}
 use Rattle.dsc_tool.proofs.Clap.Fronts.{parts_of}
-use Rattle.dsc_tool.proofs.Clap.WalkEnds.{faults_end, rows_end, walk_end, Comes, Taken}
+use Rattle.dsc_tool.proofs.Clap.WalkEnds.{faults_end, rows_end, walk_end, Comes}
 use Rattle.dsc_tool.proofs.Clap.Reading.{Texts, read}
 
 or_none : (k : Kinds) → or_else k [] ≡ k
@@ -135,11 +135,14 @@ taken_by : (long : Option Text) (words : List Text) (x : Option Parts) → Comes
     → (p : Parts) × (x ≡ Some p) × Parsed (matches_of (words_app long) words) p
 taken_by long words None fails faultless = absurd (fails (sym (faults_are long words) ∙ faultless))
 taken_by long words (Some p) taken faultless =
-    let rows = rows_are long words ∙ taken.rows in
-    (p, refl, record {
-      value = ap (first_of (codes "value")) rows ∙ (first_seen taken.seen ∙ ap (λ (q : Parts). q.value) taken.parts);
-      plain = ap (λ (r : List Row). unwrap_or (all_of (codes "plain") r) []) rows ∙ (all_seen taken.seen ∙ ap (λ (q : Parts). q.plain) taken.parts);
-    })
+    let rows = rows_are long words ∙ taken.rows in (
+      p,
+      refl,
+      record {
+        value = ap (first_of (codes "value")) rows ∙ (first_seen taken.seen ∙ ap (λ (q : Parts). q.value) taken.parts);
+        plain = ap (λ (r : List Row). unwrap_or (all_of (codes "plain") r) []) rows ∙ (all_seen taken.seen ∙ ap (λ (q : Parts). q.plain) taken.parts);
+      },
+    )
 
 faulty_by : (long : Option Text) (words : List Text) (x : Option Parts) → Comes long (state false idle none nothing) words x → Fails (fault_of (words_app long) words) → x ≡ None
 faulty_by long words None fails faulty = refl

@@ -1,19 +1,19 @@
 -- clap's walk tells the option's value from the plain words as the definition does.
-use Rattle.std.proofs.Common.{◌≡◌, ◌++◌, ◌⊎◌, inl, inr, ℕ, List, [], ◌∷◌, Bool, true, false, not, Option, Some, None, codes, refl, ap, sym, ◌∙◌, subst}
+use Rattle.std.proofs.Common.{◌≡◌, ◌⊎◌, inl, inr, List, [], ◌∷◌, Bool, true, false, not, Option, Some, None, codes, refl, ap, sym, ◌∙◌}
 use Rattle.std.specs.Prelude.{if◌then◌else◌, IsUtf8, option_map}
 use Rattle.std.specs.Str.{bytes_eq}
 use Rattle.clap.specs.declared.error.kind.ErrorKind.TheVariants.{ArgumentConflict}
 use Rattle.clap.specs.Kinds.{Kinds, or_else}
-use Rattle.clap.specs.Walk.{Row, Text, Waiting, Walk, idle, positional, settled, used, walked}
-use Rattle.clap.specs.Faults.{settle_fault, turn_fault, use_fault}
-use Rattle.dsc_tool.specs.WordParts.{Parts, is_option, is_end, is_named, option_name, joined_value, with_plain, with_value, option_value, parts}
+use Rattle.clap.specs.Walk.{Row, Text, Waiting, idle, positional, settled, used, walked}
+use Rattle.clap.specs.Faults.{turn_fault, use_fault}
+use Rattle.dsc_tool.specs.WordParts.{is_option, is_end, is_named, option_name, joined_value, with_plain, with_value, option_value, parts}
 use Rattle.dsc_tool.proofs.Clap.WordForms.{named, IsLong, LongForm, ShortForm, option_form, plain_long, plain_short, plain_end}
-use Rattle.dsc_tool.proofs.Clap.Held.{Seen, nothing, rules, rows_of, value_filled, seen_plain, seen_value, has_value, repeat_end, value_fault, use_value}
+use Rattle.dsc_tool.proofs.Clap.Held.{Seen, nothing, rules, value_filled, seen_value, has_value, repeat_end, value_fault, use_value}
 use Rattle.dsc_tool.proofs.Clap.Walked.{Pending, none, awaited, value, plain, Suits, Fails, held, state, counts, counted, shape, settles, unsettled, counted_rows}
 use Rattle.dsc_tool.proofs.Clap.Turns.{Wait, waits, at_rest, for_value, rests, IsPlain, plain_turn, plain_walked, end_turn, end_walked, trailing_turn, trailing_walked, value_turn, value_walked}
-use Rattle.dsc_tool.proofs.Clap.OptionTurns.{fails_first, fails_second, fails_as, fails_one, unknown_turn, short_turn, known_joined, known_apart, joined_walked, apart_walked}
+use Rattle.dsc_tool.proofs.Clap.OptionTurns.{fails_first, fails_as, fails_one, unknown_turn, short_turn, known_joined, known_apart, joined_walked, apart_walked}
 use Rattle.dsc_tool.proofs.Clap.Fronts.{parts_of, in_front, front_plain, front_value, front_twice, front_none, front_end}
-use Rattle.dsc_tool.proofs.Clap.WalkEnds.{faults_end, Comes, Taken, comes_as, same_faults, stepped, halted, ends, ends_unsettled}
+use Rattle.dsc_tool.proofs.Clap.WalkEnds.{faults_end, Comes, comes_as, same_faults, stepped, halted, ends, ends_unsettled}
 
 -- ---- the definition at one word
 

@@ -1,18 +1,17 @@
 -- x
-use Rattle.std.proofs.Common.{◌≡◌, ◌++◌, ℕ, List, [], ◌∷◌, Bool, true, false, not, ◌&&◌, Option, Some, None, codes, refl, ap, ap₂, sym, ◌∙◌}
+use Rattle.std.proofs.Common.{◌≡◌, List, [], ◌∷◌, Bool, true, false, ◌&&◌, Option, Some, None, codes, refl, ap, ap₂, ◌∙◌}
 use Rattle.std.specs.Prelude.{if◌then◌else◌}
 use Rattle.std.specs.Option.{option_map_or}
 use Rattle.std.specs.Str.{bytes_eq}
 use Rattle.clap.specs.Kinds.{Kinds, or_else}
 use Rattle.clap.specs.Lexer.{long_of, short_of}
-use Rattle.clap.specs.Walk.{Held, Row, Rule, Step, Text, Waiting, Walk, idle, option, positional, settled, settled_rows, walked, walk, word_met, plain_word, trailing, is_pending, takes_several, subcommand_or_other, long_or_other, short_or_plain, pushed, positional_held, after_step, arg_by_long, long_word}
+use Rattle.clap.specs.Walk.{Held, Row, Rule, Step, Text, Waiting, idle, option, positional, settled, walked, plain_word, trailing, is_pending, takes_several, subcommand_or_other, long_or_other, short_or_plain, pushed, positional_held, after_step, arg_by_long, long_word}
 use Rattle.clap.specs.Walk.{value as a_value}
-use Rattle.clap.specs.Simple.{Shape, built}
-use Rattle.clap.specs.Faults.{settle_fault, turn_fault, walk_fault, word_fault, step_fault, other_fault, flag_word_fault, bundle_fault, positional_fault, long_fault}
-use Rattle.dsc_tool.specs.ClapCommand.{words_app}
+use Rattle.clap.specs.Simple.{Shape}
+use Rattle.clap.specs.Faults.{settle_fault, turn_fault, step_fault, other_fault, flag_word_fault, bundle_fault, positional_fault, long_fault}
 use Rattle.dsc_tool.proofs.Clap.WordForms.{IsLong}
-use Rattle.dsc_tool.proofs.Clap.Held.{Seen, rules, rows_of, plain_filled, value_filled, seen_plain, seen_value, has_value, repeat_end, use_plain, value_fault, use_value}
-use Rattle.dsc_tool.proofs.Clap.Walked.{Pending, plain, none, awaited, value, pending_of, Suits, held, state, counts, counted, shape, settles, unsettled, counted_rows}
+use Rattle.dsc_tool.proofs.Clap.Held.{Seen, rules, plain_filled}
+use Rattle.dsc_tool.proofs.Clap.Walked.{Pending, plain, awaited, value, Suits, held, state, counts, counted, shape, counted_rows}
 
 -- a word that is neither an option nor the end of the options
 pub record IsPlain (word : Text) : Type 0 where

@@ -1,19 +1,14 @@
 -- What clap's walk over the words comes to.
-use Rattle.std.proofs.Common.{◌≡◌, ◌++◌, ℕ, zero, suc, List, [], ◌∷◌, length, Bool, true, false, not, cond, ◌||◌, Option, Some, None, codes, refl, ap, ap₂, sym, ◌∙◌, subst}
-use Rattle.std.specs.Prelude.{if◌then◌else◌, slice_get, fold}
-use Rattle.std.specs.Str.{bytes_eq, chars}
+use Rattle.std.proofs.Common.{◌≡◌, List, [], ◌∷◌, Bool, true, false, Option, Some, None, refl, ap, sym, ◌∙◌, subst}
+use Rattle.std.specs.Prelude.{fold}
 use Rattle.clap.specs.Kinds.{Kinds, or_else}
-use Rattle.clap.specs.Lexer.{long_of, short_of}
-use Rattle.clap.specs.Walk.{Held, Row, Rule, Step, Text, Waiting, Walk, idle, positional, settled, settled_rows, walked}
-use Rattle.clap.specs.Simple.{Shape}
+use Rattle.clap.specs.Walk.{Held, Row, Text, Waiting, Walk, settled_rows, walked}
 use Rattle.clap.specs.Faults.{settle_fault, turn_fault, walk_fault}
-use Rattle.dsc_tool.specs.WordParts.{Parts, with_plain, with_value, option_value, parts}
-use Rattle.dsc_tool.proofs.Clap.WordForms.{named, IsLong, IsShort}
-use Rattle.dsc_tool.proofs.Clap.Held.{Seen, rules, rows_of, seen_plain, seen_value, has_value}
-use Rattle.dsc_tool.proofs.Clap.Walked.{Pending, none, awaited, value, plain, pending_of, Suits, Fails, held, state, counts, counted, shape, settles, unsettled, counted_rows}
-use Rattle.dsc_tool.proofs.Clap.Turns.{Wait, waits, at_rest, for_value, rests, IsPlain, plain_turn, plain_walked, end_turn, end_walked, trailing_turn, trailing_walked, value_turn, value_walked}
-use Rattle.dsc_tool.proofs.Clap.OptionTurns.{fails_first, fails_second, fails_as}
-use Rattle.dsc_tool.proofs.Clap.Fronts.{parts_of, in_front}
+use Rattle.dsc_tool.specs.WordParts.{Parts}
+use Rattle.dsc_tool.proofs.Clap.Held.{Seen, rules, rows_of}
+use Rattle.dsc_tool.proofs.Clap.Walked.{Pending, Suits, Fails, state, counts, counted, shape, settles, unsettled, counted_rows}
+use Rattle.dsc_tool.proofs.Clap.OptionTurns.{fails_first, fails_as}
+use Rattle.dsc_tool.proofs.Clap.Fronts.{parts_of}
 
 abbrev pub walk_end : Option Text → Walk → List Text → Held
 walk_end long w words = (fold (walked (rules long) []) w words).held

@@ -1,13 +1,9 @@
 -- One word of clap's walk over the words.
-use Rattle.std.proofs.Common.{◌≡◌, ◌++◌, ℕ, List, [], ◌∷◌, Bool, true, false, not, ◌&&◌, Option, Some, None, codes, refl, ap, sym, ◌∙◌}
-use Rattle.std.specs.Str.{bytes_eq}
-use Rattle.std.specs.Option.{option_map_or}
-use Rattle.clap.specs.Kinds.{Kinds, or_else}
-use Rattle.clap.specs.Lexer.{long_of, short_of}
-use Rattle.clap.specs.Walk.{Held, Row, Rule, Step, Text, Waiting, Walk, idle, option, positional, settled, settled_rows, walked, walk, word_met, plain_word}
-use Rattle.clap.specs.Walk.{value as a_value}
+use Rattle.std.proofs.Common.{◌≡◌, List, [], ◌∷◌, Bool, true, false, not, Option, Some, None, codes, refl, ap, sym, ◌∙◌}
+use Rattle.clap.specs.Kinds.{Kinds}
+use Rattle.clap.specs.Walk.{Held, Text, Waiting, Walk, settled_rows}
 use Rattle.clap.specs.Simple.{Shape, built}
-use Rattle.clap.specs.Faults.{settle_fault, turn_fault, walk_fault, word_fault, step_fault}
+use Rattle.clap.specs.Faults.{settle_fault}
 use Rattle.dsc_tool.specs.ClapCommand.{words_app}
 use Rattle.dsc_tool.proofs.Clap.Held.{Seen, rules, rows_of, seen_plain, seen_value, has_value, repeat_end, use_plain, value_fault, use_value}
 

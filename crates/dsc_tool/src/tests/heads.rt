@@ -45,8 +45,16 @@ fn what_is_no_cache_is_refused(rt: HostRuntime) -> Result<(), Fail> {
     let mut store = MemStore::new(alloc);
     store.insert("A", data_dylib(alloc, 0x1000)?)?;
     for (line, status, want) in [
-        ("info A", Status::Refused, "dsc: cache broken 202 NotCache image 0 at 0x0\n"),
-        ("list A", Status::Refused, "dsc: cache broken 202 NotCache image 0 at 0x0\n"),
+        (
+            "info A",
+            Status::Refused,
+            "dsc: cache broken 202 NotCache image 0 at 0x0\n",
+        ),
+        (
+            "list A",
+            Status::Refused,
+            "dsc: cache broken 202 NotCache image 0 at 0x0\n",
+        ),
         ("list B", Status::ReadFault, "dsc: cannot read input 0\n"),
     ] {
         let answer = run_line(&rt, alloc, line, &mut store, 99, 99)?;

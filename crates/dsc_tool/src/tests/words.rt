@@ -67,7 +67,11 @@ fn words_that_are_a_command_are_read(rt: HostRuntime) -> Result<(), Fail> {
         let mut store = SoundStore::new(alloc);
         let answer = run_line(&rt, alloc, line, &mut store, 99, 99)?;
         assert_eq!(rt; answer.status, Status::ReadFault, "{line}");
-        assert_eq!(rt; answer.err.bytes(), b"dsc: cannot read input 0\n".as_slice(), "{line}");
+        assert_eq!(rt;
+            answer.err.bytes(),
+            b"dsc: cannot read input 0\n".as_slice(),
+            "{line}"
+        );
     }
     Ok(())
 }

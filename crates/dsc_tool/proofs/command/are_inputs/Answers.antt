@@ -1,4 +1,4 @@
-use Rattle.std.proofs.Common.{◌≡◌, ◌<◌, ◌==◌, ℕ, zero, suc, false, true, arith, sym, ◌∙◌}
+use Rattle.std.proofs.Common.{sym, ◌∙◌}
 use Rattle.dsc_tool.proofs.WordLaws.{inputs_are, not_none}
 use Rattle.dsc_tool.proofs.command.are_inputs.Goals as goal
 

@@ -1,10 +1,10 @@
 -- An order is a build, or a text on the head of a cache.
-use Rattle.std.proofs.Common.{◌≡◌, ◌∙◌, ℕ, List, Option, Some, refl, ap, sym, map, string_bytes, Global}
+use Rattle.std.proofs.Common.{◌≡◌, ◌∙◌, ℕ, List, Some, refl, ap, sym, map, string_bytes, Global}
 use Rattle.std.proofs.lemmas.Result.{IfErr-weaker, IfOk-weaker}
 use Rattle.dsc_tool.specs.declared.command.Command.{Command}
 use Rattle.dsc_tool.specs.Steps.{made_of}
 use Rattle.dsc_tool.specs.Texts.{list_text, info_text}
-use Rattle.dsc_tool.specs.Words.{Order, build, list, info, command_of, order_of}
+use Rattle.dsc_tool.specs.Words.{build, list, info, command_of, order_of}
 use Rattle.dsc_tool.proofs.ProductLaws.{build_product, build_due, text_product, head_due}
 use Rattle.dsc_tool.proofs.product.prepare.Goals as goal
 

@@ -1,4 +1,4 @@
-use Rattle.std.proofs.Common.{◌≡◌, arith}
+use Rattle.std.proofs.Common.{arith}
 use Rattle.std.proofs.lemmas.Result.{err_from_is_err_and}
 use Rattle.dsc_tool.proofs.ListLaws.{files_step, short_at}
 use Rattle.dsc_tool.proofs.run.put_files.Goals as goal

@@ -1,4 +1,4 @@
-use Rattle.std.proofs.Common.{◌≡◌, ◌∙◌, ap, sym, codes}
+use Rattle.std.proofs.Common.{◌∙◌, codes}
 use Rattle.clap.specs.Matches.{found_of}
 use Rattle.clap.proofs.WalkLemmas.{first_value-rows}
 use Rattle.dsc_tool.proofs.split.matched_parts.Goals as goal
