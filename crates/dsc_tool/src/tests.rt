@@ -3,6 +3,8 @@ mod dylibs;
 mod heads;
 mod pointers;
 mod refusals;
+mod sets;
+mod tables;
 mod words;
 
 use crate::{Status, run};
