@@ -243,7 +243,7 @@ fn other_files_are_refused(rt: HostRuntime) -> Result<(), Fail> {
         file.truncate(length);
         is_refused(&rt, alloc, file, want)?;
     }
-    let other = universal_file(alloc, 7)?;
+    let other = universal_file(alloc, 1)?;
     is_refused(&rt, alloc, other, "4 NoSlice image 0 at 0x0")?;
     let mut crossing = data_dylib(alloc, 0x2000)?;
     put_all(&mut crossing, &AT_THE_EDGE);
@@ -260,19 +260,19 @@ fn other_files_are_refused(rt: HostRuntime) -> Result<(), Fail> {
     )
 }
 
-// A universal file with an entry for i386, and behind it one for this processor, of the dylib with data.
-fn universal_file(alloc: Global, processor: u32) -> Result<Vec<u8>, NoMemory> {
+// A universal file with an entry for i386, and, where it has two entries, behind it one of the dylib with data.
+fn universal_file(alloc: Global, entries: u32) -> Result<Vec<u8>, NoMemory> {
     let mut file = Vec::new(alloc);
     file.resize(0x1000, 0)?;
     put_all(
         &mut file,
         &[
             (0x0, 0xBEBA_FECA),
-            (0x4, 0x0200_0000),
+            (0x4, entries.swap_bytes()),
             (0x8, 0x0700_0000),
             (0x10, 0x0010_0000),
             (0x14, 0x0010_0000),
-            (0x1C, processor.swap_bytes()),
+            (0x1C, 0x0700_0001),
             (0x24, 0x0010_0000),
             (0x28, 0x4020_0000),
         ],
@@ -286,7 +286,7 @@ fn a_universal_file_is_built_as_its_slice(rt: HostRuntime) -> Result<(), Fail> {
     let alloc = rt.alloc();
     let mut store = MemStore::new(alloc);
     store.insert("A", data_dylib(alloc, 0x1000)?)?;
-    store.insert("U", universal_file(alloc, 0x0100_0007)?)?;
+    store.insert("U", universal_file(alloc, 2)?)?;
     run_line(&rt, alloc, "build c A", &mut store, 99, 99)?;
     let answer = run_line(&rt, alloc, "build d U", &mut store, 99, 99)?;
     assert_eq!(rt;
