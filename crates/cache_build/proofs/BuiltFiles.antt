@@ -1,4 +1,4 @@
--- Files that break no rule make a cache that corresponds to them, whose mappings are as long as it.
+-- Files that break no rule make a cache that corresponds to them, whose mappings are as long as it, and which is sound.
 use Rattle.std.proofs.Common.{◌≡◌, ◌≤◌, ℕ, ◌+◌, ◌-◌, Option, Some, None, List, length, Vec, Global, refl, sym, ap, ◌∙◌, arith}
 use Rattle.std.specs.List.{sum_by}
 use Rattle.std.specs.Option.{option_or}
@@ -17,6 +17,7 @@ use Rattle.cache_build.specs.Breaks.{behind_layout, set_break}
 use Rattle.cache_build.specs.Built.{built}
 use Rattle.cache_build.specs.Cache.{cache_of}
 use Rattle.cache_build.specs.Always.{CorrespondsAlways}
+use Rattle.cache_build.specs.Sound.{IsSoundCache}
 use Rattle.cache_build.proofs.BuildableSets.{IsBuildable, set_span}
 use Rattle.cache_build.proofs.CacheFacts.{HasEdits, IsCache}
 use Rattle.cache_build.proofs.AcceptedSets.{AreFiles, accepted_set, buildable_set}
@@ -26,6 +27,7 @@ use Rattle.cache_build.proofs.CacheBytes.{is_cache}
 use Rattle.cache_build.proofs.CachedSets.{cached_images}
 use Rattle.cache_build.proofs.MappedWords.{IsCachedSet, fixed_ends}
 use Rattle.cache_build.proofs.CacheTheorem.{always}
+use Rattle.cache_build.proofs.SoundCaches.{sound_cache}
 
 neither : (a b : Option Break) → option_or a b ≡ None → (a ≡ None) × (b ≡ None)
 neither None b none = (refl, none)
@@ -83,3 +85,10 @@ pub files_span : (bits : ℕ) (files : List (Vec ℕ Global)) → (1 ≤ bits) �
     → span (built bits (contents files)) ≡ length (built bits (contents files))
 files_span bits files fit few bytes none =
     span_is bits (images_of (contents files)) (cached_set bits (images_of (contents files)) (buildable bits (contents files) fit.0 fit.1 (few_of files few.1) bytes none))
+
+-- ---- what can be read back of them
+
+pub files_sound : (bits : ℕ) (files : List (Vec ℕ Global)) → (1 ≤ bits) × (bits ≤ 16) → (1 ≤ length files) × (length files ≤ 4096) → AreFiles (contents files) → set_break bits (contents files) ≡ None
+    → IsSoundCache (built bits (contents files))
+files_sound bits files fit few bytes none =
+    sound_cache bits (images_of (contents files)) (cached_set bits (images_of (contents files)) (buildable bits (contents files) fit.0 fit.1 (few_of files few.1) bytes none))

@@ -12,7 +12,7 @@ use Rattle.macho_image.specs.Rules.{is_plain_name, is_linkedit_segment, breaks_n
 use Rattle.macho_image.specs.Breaks.{header_break, command_break, IsSound}
 use Rattle.macho_image.proofs.Images.{pieces_of-loads_from}
 use Rattle.macho_image.proofs.Unbroken.{or_none, broken_none}
-use Rattle.cache_header.specs.Paths.{is_plain_path}
+use Rattle.dsc_base.specs.Texts.{is_plain_text}
 use Rattle.cache_layout.specs.Layouts.{layout_of, layout_break}
 use Rattle.cache_layout.specs.Apart.{IsSegment, move_at}
 use Rattle.cache_layout.proofs.SoundLaws.{sound_rules, both, sound_linkedit}
@@ -38,14 +38,13 @@ and_true : (a b : Bool) → a ≡ true → b ≡ true → (a && b) ≡ true
 and_true true b is other = other
 and_true false b is other = absurd (cc)
 
-plain_path : (c : List ℕ) → is_plain_name c ≡ true → is_plain_path (dylib_name c) ≡ true
-unfolding is_plain_path
+plain_path : (c : List ℕ) → is_plain_name c ≡ true → is_plain_text (dylib_name c) ≡ true
 plain_path c plain =
     let one = both (nat_le 24 (number_at 4 c 8)) _ plain in
     let two = both (nat_lt (number_at 4 c 8 + length (dylib_name c)) (length c)) _ one.1 in
     two.1
 
-name_found : (b : Bool) (c : List ℕ) (o : Option (List ℕ)) → (b ≡ true → is_plain_path (dylib_name c) ≡ true) → (b ≡ false → is_plain_path (install_name_of o) ≡ true) → is_plain_path (install_name_of (cond b (Some c) o)) ≡ true
+name_found : (b : Bool) (c : List ℕ) (o : Option (List ℕ)) → (b ≡ true → is_plain_text (dylib_name c) ≡ true) → (b ≡ false → is_plain_text (install_name_of o) ≡ true) → is_plain_text (install_name_of (cond b (Some c) o)) ≡ true
 name_found true c o here later = here refl
 name_found false c o here later = later refl
 
@@ -53,7 +52,7 @@ rest_has : (a b : Bool) → (a || b) ≡ true → a ≡ false → b ≡ true
 rest_has true b has isnt = absurd (cc)
 rest_has false b has isnt = has
 
-names_plain : (ls : List Load) → breaks_name_text ls ≡ None → list_any (λ (l : Load). is_install_name (number_of l.bytes)) ls ≡ true → is_plain_path (install_name_of (command_where is_install_name (pieces_of ls))) ≡ true
+names_plain : (ls : List Load) → breaks_name_text ls ≡ None → list_any (λ (l : Load). is_install_name (number_of l.bytes)) ls ≡ true → is_plain_text (install_name_of (command_where is_install_name (pieces_of ls))) ≡ true
 names_plain [] none some = absurd (cc)
 names_plain (l ∷ ls) none some =
     let parts = found_none (is_dylib (number_of l.bytes) && not (is_plain_name l.bytes)) l (find (λ (k : Load). is_dylib (number_of k.bytes) && not (is_plain_name k.bytes)) ls) none in
@@ -76,9 +75,9 @@ sound_install : (image : Img) → IsSound image → breaks_no_install_name (load
 unfolding header_break
 sound_install image sound = command_rules (loads_of image.header) (or_none _ _ (or_none _ _ sound.unbroken).1).0
 
-pub sound_path : (image : Img) → IsSound image → is_plain_path image.install_name ≡ true
+pub sound_path : (image : Img) → IsSound image → is_plain_text image.install_name ≡ true
 sound_path image sound =
-    ap is_plain_path (sound.install_name ∙ ap (λ (cs : List (List ℕ)). install_name_of (command_where is_install_name cs)) (sym (pieces_of-loads_from 32 (commands_of image.header))))
+    ap is_plain_text (sound.install_name ∙ ap (λ (cs : List (List ℕ)). install_name_of (command_where is_install_name cs)) (sym (pieces_of-loads_from 32 (commands_of image.header))))
     ∙ names_plain (loads_of image.header) (sound_rules image sound).names (has_name (loads_of image.header) (sound_install image sound))
 
 -- ---- the header in the text segment

@@ -72,6 +72,16 @@ pub record IsFramed (l : Laid) (is : List Img) (slide : ℕ) (shares : List Shar
   pub fits : merge_break l slide shares ≡ None
   pub framed : frame ≡ frame_of l slide shares
 
+-- a frame that was made of the size of so many bytes
+pub is_framed : (l : Laid) (is : List Img) (slide : ℕ) (shares : List Share) (linkedit : List ℕ) (frame : Frame) (size : ℕ) → IsLayout l is → linkedit ≡ linkedit_of shares → merge_break l slide shares ≡ None → size ≡ length linkedit
+    → ((given : List Share) → size ≡ linkedit_size given → frame ≡ frame_of l slide given) → IsFramed l is slide shares linkedit frame
+is_framed l is slide shares linkedit frame size layout bytes fits long framed = record {
+  layout = layout;
+  bytes = bytes;
+  fits = fits;
+  framed = framed shares (long ∙ (ap (λ (b : List ℕ). length b) bytes ∙ length_linkedit shares));
+}
+
 record Stands (l : Laid) (slide : ℕ) (shares : List Share) (frame : Frame) : Type 0 where
   slide_at : frame.slide_at ≡ l.fixed.at + l.fixed.len
   slide_size : frame.slide_size ≡ slide

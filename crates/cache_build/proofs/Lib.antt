@@ -48,6 +48,7 @@ pub mod SetWords
 pub mod SizedPages
 pub mod SlidCaches
 pub mod SlideSizes
+pub mod SoundCaches
 pub mod SoundIdentifiers
 pub mod TargetPlaces
 pub mod ToldCaches

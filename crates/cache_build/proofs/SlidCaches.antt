@@ -32,15 +32,18 @@ long_is bits is buildable edits =
 
 -- ---- slide information
 
-info_there : (bits : ℕ) (is : List Img) → IsBuildable bits is → HasEdits bits is → info_read (slide_info_bytes (cache_of bits is)) ≡ info_of bits (layout_of is).writable.len (set_chained is)
+pub slide_bytes_there : (bits : ℕ) (is : List Img) → IsBuildable bits is → HasEdits bits is → slide_info_bytes (cache_of bits is) ≡ set_slide bits is
+slide_bytes_there bits is buildable edits =
+    let place : ℕ = (layout_of is).fixed.at + (layout_of is).fixed.len in
+    slide_there bits is buildable
+    ∙ (ap (λ (c : List ℕ). take (length (set_slide bits is)) (drop place c)) (cache_parts bits is)
+    ∙ stands_take _ (set_slide bits is) place (slide_stands bits is (linked_part bits is) buildable (length-linked bits is buildable.accepted edits)))
+
+pub info_there : (bits : ℕ) (is : List Img) → IsBuildable bits is → HasEdits bits is → info_read (slide_info_bytes (cache_of bits is)) ≡ info_of bits (layout_of is).writable.len (set_chained is)
 info_there bits is buildable edits =
     let l : Laid = layout_of is in
-    let place : ℕ = l.fixed.at + l.fixed.len in
     let frame : IsFramed bits is = framed bits is buildable in
-    ap info_read (slide_there bits is buildable
-    ∙ (ap (λ (c : List ℕ). take (length (set_slide bits is)) (drop place c)) (cache_parts bits is)
-    ∙ stands_take _ (set_slide bits is) place (slide_stands bits is (linked_part bits is) buildable (length-linked bits is buildable.accepted edits))))
-    ∙ info_is bits l.writable.len (set_chained is) buildable.most (omega (arith, frame.turn.fixed, frame.turn.span)) buildable.chains
+    ap info_read (slide_bytes_there bits is buildable edits) ∙ info_is bits l.writable.len (set_chained is) buildable.most (omega (arith, frame.turn.fixed, frame.turn.span)) buildable.chains
 
 -- ---- the data
 
@@ -49,7 +52,7 @@ three_parts : (bits : ℕ) (is : List Img) → cache_of bits is ≡ (set_front b
 three_parts bits is =
     cache_parts bits is ∙ sym (append_assoc (set_front bits is) (linked_part bits is Text) (linked_part bits is Writable ++ (linked_part bits is Fixed ++ set_tail bits is)))
 
-data_there : (bits : ℕ) (is : List Img) → IsBuildable bits is → HasEdits bits is → take (layout_of is).writable.len (drop (layout_of is).writable.at (cache_of bits is)) ≡ linked_part bits is Writable
+pub data_there : (bits : ℕ) (is : List Img) → IsBuildable bits is → HasEdits bits is → take (layout_of is).writable.len (drop (layout_of is).writable.at (cache_of bits is)) ≡ linked_part bits is Writable
 data_there bits is buildable edits =
     let long : AreRanges is (linked_part bits is) = length-linked bits is buildable.accepted edits in
     ap₂ (λ (n : ℕ) (c : List ℕ). take n (drop (layout_of is).writable.at c)) (sym (long Writable)) (cache_parts bits is)

@@ -1,12 +1,13 @@
 -- What the head of a set's cache says: its images, its mappings, where its slide information stands, and how far it can slide.
-use Rattle.std.proofs.Common.{◌≡◌, ◌<◌, ℕ, ◌+◌, ◌-◌, List, [], ◌++◌, take, drop, length, get_or, replicate, sym, ap, ◌∙◌, arith}
+use Rattle.std.proofs.Common.{◌≡◌, ◌<◌, ℕ, ◌+◌, ◌-◌, None, List, [], ◌++◌, take, drop, length, get_or, replicate, sym, ap, ◌∙◌, arith}
 use Rattle.dsc_base.specs.Region.{region_size}
 use Rattle.macho_image.specs.Records.{Img}
 use Rattle.cache_header.specs.Records.{Entry}
 use Rattle.cache_header.specs.Spelling.{head_bytes}
-use Rattle.cache_header.specs.Reading.{mappings_of, slide_info_bytes, image_count, image_address, image_path, max_slide}
-use Rattle.cache_header.proofs.Back.{padded_head}
-use Rattle.cache_header.proofs.BackHead.{image_count_is, mappings_are, max_slide_is, slide_info_bytes_is}
+use Rattle.cache_header.specs.Reading.{mappings_of, slide_info_bytes, slide_place, image_count, image_address, image_path, max_slide}
+use Rattle.cache_header.specs.Findings.{head_finding}
+use Rattle.cache_header.proofs.Back.{padded_head, head_sound}
+use Rattle.cache_header.proofs.BackHead.{image_count_is, mappings_are, max_slide_is, slide_place_is, slide_info_bytes_is}
 use Rattle.cache_header.proofs.BackImages.{image_address_is, image_path_is}
 use Rattle.cache_layout.specs.declared.mapping.Mapping.TheVariants.{Text, Writable, Fixed}
 use Rattle.cache_layout.specs.Layouts.{layout_of}
@@ -21,14 +22,18 @@ use Rattle.cache_build.proofs.CacheHeads.{head_fits, head_writable, entries_are,
 use Rattle.cache_build.proofs.CacheParts.{linked_part, set_tail, cache_parts}
 
 -- what stands behind the head
-abbrev behind_head : ℕ → List Img → List ℕ
+abbrev pub behind_head : ℕ → List Img → List ℕ
 behind_head bits is =
     replicate ((layout_of is).text.at - length (head_bytes (set_head bits is))) 0
     ++ (linked_part bits is Text ++ (linked_part bits is Writable ++ (linked_part bits is Fixed ++ set_tail bits is)))
 
-head_first : (bits : ℕ) (is : List Img) → cache_of bits is ≡ head_bytes (set_head bits is) ++ behind_head bits is
+pub head_first : (bits : ℕ) (is : List Img) → cache_of bits is ≡ head_bytes (set_head bits is) ++ behind_head bits is
 head_first bits is =
     cache_parts bits is ∙ padded_head (layout_of is).text.at (set_head bits is) (linked_part bits is Text ++ (linked_part bits is Writable ++ (linked_part bits is Fixed ++ set_tail bits is)))
+
+-- nothing is wrong with the head
+pub head_none : (bits : ℕ) (is : List Img) → IsBuildable bits is → head_finding (cache_of bits is) ≡ None
+head_none bits is buildable = ap head_finding (head_first bits is) ∙ head_sound (set_head bits is) (behind_head bits is) (head_writable bits is buildable.accepted) (head_fits bits is buildable)
 
 -- ---- images
 
@@ -56,6 +61,11 @@ address_is bits is buildable k i lt at =
     ∙ ap (λ (e : Entry). e.address) (entry_there bits is k i lt at))
 
 -- ---- the file
+
+pub place_is : (bits : ℕ) (is : List Img) → IsBuildable bits is
+    → slide_place (cache_of bits is) ≡ record { at = (layout_of is).fixed.at + (layout_of is).fixed.len; len = length (set_slide bits is) }
+unfolding head_of frame_of
+place_is bits is buildable = ap slide_place (head_first bits is) ∙ slide_place_is (set_head bits is) (behind_head bits is) (head_fits bits is buildable)
 
 pub most_is : (bits : ℕ) (is : List Img) → IsBuildable bits is → max_slide (cache_of bits is) ≡ region_size - set_span bits is
 unfolding head_of frame_of

@@ -1,7 +1,7 @@
 -- What the parts of a cache need of their images and layout.
 use Rattle.std.specs.Prelude.{◌≡◌, ◌≤◌, ◌<◌, ℕ, ◌^◌, true, Some, List, length, All, slice_get}
 use Rattle.macho_image.specs.Records.{Seg, Img}
-use Rattle.cache_header.specs.Paths.{is_plain_path}
+use Rattle.dsc_base.specs.Texts.{is_plain_text}
 use Rattle.cache_build.specs.Head.{text_size}
 
 -- the text segment has room for the header
@@ -16,5 +16,5 @@ IsLow s = s.vmsize ≤ 0x800000000000
 pub record Fits (image : Img) : Type 0 where
   pub low : All IsLow image.segments
   pub begins : HasRoom image.header image.segments
-  pub path : is_plain_path image.install_name ≡ true
+  pub path : is_plain_text image.install_name ≡ true
   pub text : text_size image.segments < 2 ^ 32

@@ -8,3 +8,4 @@ pub mod Fits
 pub mod Head
 pub mod Places
 pub mod Ready
+pub mod Sound

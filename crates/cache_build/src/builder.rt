@@ -6,6 +6,7 @@ ghost use Rattle.load_model.specs.Phases.{contents};
 ghost use Rattle.cache_build.specs.Built.{built};
 ghost use Rattle.cache_build.specs.Filling.{ArePartsOf};
 ghost use Rattle.cache_build.specs.Ready.{IsReady};
+ghost use Rattle.cache_build.specs.Sound.{IsSoundCache};
 ghost use Rattle.dsc_base.specs.Refusals.{IsSetRefusal, RefusesSet};
 ghost use Rattle.cache_build.specs.Always.{CorrespondsAlways};
 
@@ -92,13 +93,13 @@ pub fn build<R: Threads + Sync, G: Gate + Sync>(
     gate: &G,
 ) -> Result<Vec<u8>, SetFault>
     requires few { (1 ≤ length files.now) × (length files.now ≤ 4096) }
-    requires sizes { All (λ f. length f.items ≤ 0x4000000) files.now }
     requires jobs { (1 ≤ options.now.jobs) × (options.now.jobs ≤ 64) }
     requires bits { (1 ≤ options.now.delta_bits) × (options.now.delta_bits ≤ 16) }
     ensures cache { IfOk result (λ c. c.items ≡ built options.now.delta_bits (contents files.now)) }
     ensures unbroken { OnOk result (set_break options.now.delta_bits (contents files.now) ≡ None) }
     ensures corresponds { set_break options.now.delta_bits (contents files.now) ≡ None → CorrespondsAlways (contents files.now) (built options.now.delta_bits (contents files.now)) }
     ensures span { set_break options.now.delta_bits (contents files.now) ≡ None → span (built options.now.delta_bits (contents files.now)) ≡ length (built options.now.delta_bits (contents files.now)) }
+    ensures sound { set_break options.now.delta_bits (contents files.now) ≡ None → IsSoundCache (built options.now.delta_bits (contents files.now)) }
     ensures cause { IfErr result (IsSetRefusal (set_break options.now.delta_bits (contents files.now))) }
 {
     files_are_bytes(files);

@@ -8,3 +8,4 @@ pub mod ReachedLaws
 pub mod ShapeLaws
 pub mod SlidLaws
 pub mod ViewLaws
+pub mod WholeLaws

@@ -12,7 +12,8 @@ use Rattle.dsc_base.specs.Region.{padded}
 use Rattle.dsc_base.specs.Fields.{spelled}
 use Rattle.dsc_base.specs.declared.finding_kind.FindingKind.TheVariants.{NameNotPlain}
 use Rattle.cache_header.specs.Records.{Entry, Head}
-use Rattle.cache_header.specs.Paths.{is_nul, is_plain_path}
+use Rattle.dsc_base.specs.Texts.{is_plain_text}
+use Rattle.cache_header.specs.Paths.{is_nul}
 use Rattle.cache_header.specs.Spelling.{magic, mapping_fields, image_table, text_table, path_bytes, path_room, head_bytes, IsWritable}
 use Rattle.cache_header.specs.Reading.{header_number, image_count, path_offset, head_read}
 use Rattle.cache_header.specs.Findings.{is_cache, has_header, has_table, has_text_table, table_outside, begins_plain, has_plain_path, ill_named, finding, head_finding}
@@ -118,7 +119,7 @@ path_there_plain h rest k d writable fits lt =
     let there = path_there h rest k d writable fits lt in
     ap₂ (λ (a b : Bool). a && b)
     (ap (list_any is_nul) there.1 ∙ nul_there (get_or h.images k d).path there.0)
-    (ap is_plain_path (image_path_is h rest k d writable fits lt) ∙ writable.plain k d lt)
+    (ap is_plain_text (image_path_is h rest k d writable fits lt) ∙ writable.plain k d lt)
 
 names_there : (h : Head) (rest : List ℕ) → IsWritable h → FitsHead h → ill_named (head_bytes h ++ rest) ≡ None
 names_there h rest writable fits =

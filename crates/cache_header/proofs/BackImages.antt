@@ -10,11 +10,13 @@ use Rattle.dsc_base.specs.Numbers.{number_at}
 use Rattle.dsc_base.specs.Fields.{spelled, AreWhole}
 use Rattle.dsc_base.proofs.FieldLaws.{length-spelled, identifier_spelled}
 use Rattle.cache_header.specs.Records.{Entry, Head}
-use Rattle.cache_header.specs.Paths.{is_nul, is_printable}
+use Rattle.dsc_base.specs.Texts.{is_printable}
+use Rattle.cache_header.specs.Paths.{is_nul}
 use Rattle.cache_header.specs.Spelling.{mapping_fields, image_fields, text_fields, image_table, text_table, path_bytes, path_room, path_place, head_bytes, IsWritable}
 use Rattle.cache_header.specs.Reading.{header_number, image_count, image_address, path_offset, image_path, has_texts, image_uuid, image_text_size, image_at, images_of}
 use Rattle.cache_header.specs.Widths.{FitsEntry, FitsHead}
-use Rattle.cache_header.proofs.PathLaws.{IsPlain, plain_is, length-paths, path_place-fits}
+use Rattle.dsc_base.proofs.TextLaws.{IsPlain, plain_is}
+use Rattle.cache_header.proofs.PathLaws.{length-paths, path_place-fits}
 use Rattle.cache_header.proofs.PlaceLaws.{piece_at, length-table, numbered, image_entry, u32_there, u64_there}
 use Rattle.cache_header.proofs.BackHead.{behind_header, mapping_table-length, image_table_is, text_table_is, image_count_is, text_count_is}
 

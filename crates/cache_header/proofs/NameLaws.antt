@@ -6,7 +6,8 @@ use Rattle.std.proofs.lemmas.List.Folds.{list_any_none, list_any_at}
 use Rattle.std.proofs.lemmas.List.Sums.{fails_before_first, passes_at_first}
 use Rattle.std.specs.List.{before_first, position_or_len, list_any, range_with_len}
 use Rattle.std.proofs.lemmas.Bool.{cond-true, cond-false}
-use Rattle.cache_header.specs.Paths.{is_nul, is_plain_path}
+use Rattle.dsc_base.specs.Texts.{is_plain_text}
+use Rattle.cache_header.specs.Paths.{is_nul}
 use Rattle.dsc_base.specs.declared.fault.ViewFault.{ViewFault}
 use Rattle.dsc_base.specs.declared.fault.ViewFault.TheVariants.{Broken}
 use Rattle.dsc_base.specs.declared.finding_kind.FindingKind.TheVariants.{NameNotPlain}
@@ -69,10 +70,10 @@ begins_none bytes absent =
     let past : nat_lt (position_or_len is_nul bytes) (length bytes) ≡ false = absent_place (nat_lt (position_or_len is_nul bytes) (length bytes)) (position_or_len is_nul bytes) absent in
     let long : length bytes ≤ position_or_len is_nul bytes = grind (arith, nat_tests) in
     let none : list_any is_nul bytes ≡ false = list_any_none is_nul bytes (λ k d lt. fails_before_first is_nul bytes k d (omega arith)) in
-    ap (λ (b : Bool). b && is_plain_path (before_first is_nul bytes)) none
+    ap (λ (b : Bool). b && is_plain_text (before_first is_nul bytes)) none
 
 -- with one, it is what stands before the first
-pub begins_some : (bytes : List ℕ) (n : ℕ) → position is_nul bytes ≡ Some n → (take n bytes ≡ before_first is_nul bytes) × (begins_plain bytes ≡ is_plain_path (take n bytes))
+pub begins_some : (bytes : List ℕ) (n : ℕ) → position is_nul bytes ≡ Some n → (take n bytes ≡ before_first is_nul bytes) × (begins_plain bytes ≡ is_plain_text (take n bytes))
 unfolding begins_plain
 begins_some bytes n found =
     let place : (nat_lt (position_or_len is_nul bytes) (length bytes) ≡ true) × (position_or_len is_nul bytes ≡ n) =
@@ -81,7 +82,7 @@ begins_some bytes n found =
     let inside : nat_lt (position_or_len is_nul bytes) (length bytes) ≡ true = place.0 in
     let lt : position_or_len is_nul bytes < length bytes = grind (arith, nat_tests) in
     let some : list_any is_nul bytes ≡ true = list_any_at is_nul bytes (position_or_len is_nul bytes) 0 lt (passes_at_first is_nul bytes 0 lt) in
-    (before, ap₂ (λ (b : Bool) (path : List ℕ). b && is_plain_path path) some (sym before))
+    (before, ap₂ (λ (b : Bool) (path : List ℕ). b && is_plain_text path) some (sym before))
 
 -- ---- what a test of a path answers
 

@@ -1,31 +1,12 @@
 -- The paths of the images: what a plain one is, and where each stands.
-use Rattle.std.proofs.Common.{◌≡◌, ◌≤◌, ◌<◌, ℕ, ◌+◌, ◌*◌, ◌^◌, Bool, true, false, ◌&&◌, nat_le, List, [], ◌∷◌, take, length, get_or, All, refl, ap, arith, length-append}
-use Rattle.std.specs.List.{list_all, sum_by}
-use Rattle.std.proofs.lemmas.Bool.Decides.{nat_tests}
+use Rattle.std.proofs.Common.{◌≡◌, ◌≤◌, ◌<◌, ℕ, ◌+◌, ◌*◌, ◌^◌, true, List, [], ◌∷◌, take, length, get_or, All, ap, arith, length-append}
+use Rattle.std.specs.List.{sum_by}
 use Rattle.std.proofs.lemmas.List.Elements.{All-weaker}
 use Rattle.std.proofs.lemmas.List.Sums.{sum_by_more, sum_by-le, sum_by-take-le, sum_by-le-sum_by}
 use Rattle.cache_header.specs.Records.{Entry}
-use Rattle.cache_header.specs.Paths.{is_printable, is_plain_path}
+use Rattle.dsc_base.specs.Texts.{is_plain_text}
+use Rattle.dsc_base.proofs.TextLaws.{IsPlain, plain_is}
 use Rattle.cache_header.specs.Spelling.{path_bytes, path_room, path_place}
-
-pub record IsPlain (path : List ℕ) : Type 0 where
-  pub some : 1 ≤ length path
-  pub short : length path ≤ 1024
-  pub printable : list_all is_printable path ≡ true
-
-plain_and : (a b c : Bool) → a && (b && c) ≡ true → (a ≡ true) × (b ≡ true) × (c ≡ true)
-plain_and true true true all = (refl, refl, refl)
-plain_and true true false all = absurd (cc)
-plain_and true false c all = absurd (cc)
-plain_and false b c all = absurd (cc)
-
-pub plain_is : (path : List ℕ) → is_plain_path path ≡ true → IsPlain path
-unfolding is_plain_path
-plain_is path plain =
-    let parts = plain_and (nat_le 1 (length path)) (nat_le (length path) 1024) (list_all is_printable path) plain in
-    let some : nat_le 1 (length path) ≡ true = parts.0 in
-    let short : nat_le (length path) 1024 ≡ true = parts.1 in
-    record { some = grind (arith, nat_tests); short = grind (arith, nat_tests); printable = parts.2 }
 
 pub length-path_bytes : (e : Entry) → length (path_bytes e) ≡ path_room e
 length-path_bytes e = length-append e.path (0 ∷ [])
@@ -38,7 +19,7 @@ length-paths images =
     sum_by-le-sum_by path_room (λ e. length (path_bytes e)) images (λ e. omega (arith, length-path_bytes e)) in
     omega (arith, up, down)
 
-pub path_room-le : (e : Entry) → is_plain_path e.path ≡ true → path_room e ≤ 1025
+pub path_room-le : (e : Entry) → is_plain_text e.path ≡ true → path_room e ≤ 1025
 path_room-le e plain = let is : IsPlain e.path = plain_is e.path plain in omega (arith, is.short)
 
 pub path_place-first : (images : List Entry) → path_place images 0 ≡ 0x158 + 64 * length images
@@ -54,11 +35,11 @@ path_place-next images i d lt =
     omega (arith, more)
 
 -- the place of a path fits a field of 32 bits
-pub path_place-fits : (images : List Entry) (i : ℕ) → length images ≤ 4096 → All (λ e. is_plain_path e.path ≡ true) images → path_place images i < 2 ^ 32
+pub path_place-fits : (images : List Entry) (i : ℕ) → length images ≤ 4096 → All (λ e. is_plain_text e.path ≡ true) images → path_place images i < 2 ^ 32
 unfolding path_place
 path_place-fits images i few plain =
     let rooms : All (λ (e : Entry). path_room e ≤ 1025) images =
-    All-weaker (λ (e : Entry). is_plain_path e.path ≡ true) (λ (e : Entry). path_room e ≤ 1025) path_room-le images plain in
+    All-weaker (λ (e : Entry). is_plain_text e.path ≡ true) (λ (e : Entry). path_room e ≤ 1025) path_room-le images plain in
     let all : sum_by path_room images ≤ length images * 1025 = sum_by-le path_room 1025 images rooms in
     let part : sum_by path_room (take i images) ≤ sum_by path_room images = sum_by-take-le path_room images i in
     omega (arith, all, part)

@@ -7,7 +7,8 @@ use Rattle.std.proofs.lemmas.Bool.Decides.{nat_tests}
 use Rattle.dsc_base.specs.Numbers.{number_at}
 use Rattle.dsc_base.specs.declared.fault.Finding.{Finding}
 use Rattle.dsc_base.specs.declared.finding_kind.FindingKind.TheVariants.{NotCache, ShortHeader, TableOutside, NameNotPlain}
-use Rattle.cache_header.specs.Paths.{is_nul, is_plain_path}
+use Rattle.dsc_base.specs.Texts.{is_plain_text}
+use Rattle.cache_header.specs.Paths.{is_nul}
 use Rattle.cache_header.specs.Reading.{header_number, image_count, path_offset, image_path}
 use Rattle.cache_header.specs.Findings.{is_cache, has_header, HasHeader, has_table, has_text_table, table_outside, begins_plain, has_plain_path, ill_named, finding, name_finding, head_finding}
 
@@ -19,7 +20,7 @@ pub record IsSoundHead (c : List ℕ) : Type 0 where
   pub mapping_table : number_at 4 c 0x10 + 32 * number_at 4 c 0x14 ≤ length c
   pub image_table : header_number 4 c 0x18 + 32 * image_count c ≤ length c
   pub text_table : (header_number 8 c 0x90 ≡ 0) ⊎ (header_number 8 c 0x88 + 32 * header_number 8 c 0x90 ≤ length c)
-  pub plain : (k : ℕ) → k < image_count c → is_plain_path (image_path c k) ≡ true
+  pub plain : (k : ℕ) → k < image_count c → is_plain_text (image_path c k) ≡ true
 
 -- a test that is passed, where nothing is found
 passed : {X : Type 0} (b : Bool) (x : X) (o : Option X) → cond (not b) (Some x) o ≡ None → (b ≡ true) × (o ≡ None)
@@ -75,9 +76,9 @@ text_facts c at count holds =
       | false ↦ λ is inside. inr (table_facts c at count inside).1
     ] refl holds
 
-plain_facts : (c : List ℕ) (k : ℕ) → has_plain_path c k ≡ true → is_plain_path (image_path c k) ≡ true
+plain_facts : (c : List ℕ) (k : ℕ) → has_plain_path c k ≡ true → is_plain_text (image_path c k) ≡ true
 unfolding begins_plain
-plain_facts c k holds = let parts = both (list_any is_nul (drop (path_offset c k) c)) (is_plain_path (image_path c k)) holds in parts.1
+plain_facts c k holds = let parts = both (list_any is_nul (drop (path_offset c k) c)) (is_plain_text (image_path c k)) holds in parts.1
 
 not_false : (b : Bool) → not b ≡ false → b ≡ true
 not_false true is = refl

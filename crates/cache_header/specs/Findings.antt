@@ -3,11 +3,10 @@ use Rattle.std.specs.Prelude.{◌≡◌, ◌≤◌, ◌<◌, ℕ, ◌+◌, ◌*�
 use Rattle.std.specs.List.{list_any, before_first, range_with_len, starts_with}
 use Rattle.dsc_base.specs.Numbers.{number_at}
 use Rattle.dsc_base.specs.declared.fault.Finding.{Finding}
-use Rattle.dsc_base.specs.declared.fault.ViewFault.{ViewFault}
-use Rattle.dsc_base.specs.declared.fault.ViewFault.TheVariants.{Broken, Memory}
 use Rattle.dsc_base.specs.declared.finding_kind.FindingKind.{FindingKind}
 use Rattle.dsc_base.specs.declared.finding_kind.FindingKind.TheVariants.{NotCache, ShortHeader, TableOutside, NameNotPlain}
-use Rattle.cache_header.specs.Paths.{is_nul, is_plain_path}
+use Rattle.dsc_base.specs.Texts.{is_plain_text}
+use Rattle.cache_header.specs.Paths.{is_nul}
 use Rattle.cache_header.specs.Spelling.{magic}
 use Rattle.cache_header.specs.Reading.{header_number, image_count, path_offset, has_texts}
 
@@ -49,7 +48,7 @@ pub record HasTables (cache : List ℕ) : Type 0 where
 
 -- a path and its NUL stand at the front of the bytes, and it is plain
 unfoldable pub begins_plain : List ℕ → Bool
-begins_plain bytes = list_any is_nul bytes && is_plain_path (before_first is_nul bytes)
+begins_plain bytes = list_any is_nul bytes && is_plain_text (before_first is_nul bytes)
 
 -- the path of image k ends in the file and is plain
 abbrev pub has_plain_path : List ℕ → ℕ → Bool

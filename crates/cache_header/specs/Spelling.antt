@@ -9,7 +9,7 @@ use Rattle.dsc_base.specs.declared.fault.Span.{Span}
 use Rattle.dsc_base.specs.Region.{region_start, region_size}
 use Rattle.cache_header.specs.declared.head.Mapping.{Mapping}
 use Rattle.cache_header.specs.Records.{Entry, Head}
-use Rattle.cache_header.specs.Paths.{is_plain_path}
+use Rattle.dsc_base.specs.Texts.{is_plain_text}
 
 -- "dyld_v1  x86_64" and a NUL
 abbrev pub magic : List ℕ
@@ -73,4 +73,4 @@ head_bytes h = spelled (head_fields h) ++ flat_map path_bytes h.images
 pub record IsWritable (h : Head) : Type 0 where
   pub three : length h.mappings ≡ 3
   pub few : length h.images ≤ 4096
-  pub plain : All (λ e. is_plain_path e.path ≡ true) h.images
+  pub plain : All (λ e. is_plain_text e.path ≡ true) h.images

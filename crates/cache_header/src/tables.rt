@@ -2,7 +2,7 @@
 ghost use Rattle.std.specs.Prelude.{◌≡◌, ◌≤◌, ◌<◌, ◌^◌, ◌++◌, ◌*◌, length, true, All, IfOk, OnOk};
 ghost use Rattle.std.specs.List.{flat_map};
 ghost use Rattle.dsc_base.specs.Fields.{spelled};
-ghost use Rattle.cache_header.specs.Paths.{is_plain_path};
+ghost use Rattle.dsc_base.specs.Texts.{is_plain_text};
 ghost use Rattle.cache_header.specs.Spelling.{header_fields, mapping_fields, image_info, text_info, image_table, text_table, path_bytes, path_room, path_place};
 ghost use Rattle.cache_header.specs.Widths.{FitsMapping, FitsEntry};
 
@@ -154,7 +154,7 @@ fn append_text(
 
 /// The room that the path of an image takes, with its NUL.
 fn path_room(image: &TableImage) -> u32
-    requires { is_plain_path image.now.path ≡ true }
+    requires { is_plain_text image.now.path ≡ true }
     ensures { result ≡ path_room image.now }
 {
     image.path.as_slice().len() as u32 + 1
@@ -171,7 +171,7 @@ fn first_path(images: &[TableImage]) -> u32
 /// The image table.
 pub(crate) fn image_table(alloc: Global, images: &[TableImage]) -> Result<Vec<u8>, NoMemory>
     requires few { length images.now ≤ 4096 }
-    requires plain { All (λ e. is_plain_path e.path ≡ true) images.now }
+    requires plain { All (λ e. is_plain_text e.path ≡ true) images.now }
     ensures { IfOk result (λ v. v.items ≡ spelled (image_table images.now)) }
 {
     let mut path_at = first_path(images);
@@ -186,7 +186,7 @@ pub(crate) fn image_table(alloc: Global, images: &[TableImage]) -> Result<Vec<u8
 /// The image text table.
 pub(crate) fn text_table(alloc: Global, images: &[TableImage]) -> Result<Vec<u8>, NoMemory>
     requires few { length images.now ≤ 4096 }
-    requires plain { All (λ e. is_plain_path e.path ≡ true) images.now }
+    requires plain { All (λ e. is_plain_text e.path ≡ true) images.now }
     ensures bytes { IfOk result (λ v. v.items ≡ spelled (text_table images.now)) }
     ensures fits { OnOk result (All FitsEntry images.now) }
 {

@@ -2,7 +2,6 @@
 use Rattle.std.proofs.Common.{◌≡◌, ◌≤◌, ◌<◌, ◌⊎◌, ℕ, zero, suc, ◌+◌, ◌%◌, ◌/◌, Bool, true, false, not, ◌&&◌, ◌||◌, cond, List, [], ◌∷◌, ◌++◌, length, map, get_or, refl, sym, ap, ◌∙◌, subst, arith, if◌then◌else◌, nat_lt, nat_le, nat_eq, inl, inr, Option, Some, None, option_map}
 use Rattle.std.specs.Prelude.{find, codes}
 use Rattle.std.specs.Cmp.Lexicographic.{same_text}
-use Rattle.std.specs.List.{list_all}
 use Rattle.std.proofs.lemmas.List.{get_or_default, length-map}
 use Rattle.std.proofs.Math.ListN.{get_or-map}
 use Rattle.std.proofs.lemmas.Bool.{false≢true}
@@ -11,7 +10,8 @@ use Rattle.dsc_base.specs.Numbers.{number_at}
 use Rattle.dsc_base.specs.declared.rule.Rule.TheVariants.{SegmentShape, SegmentProt, NameText}
 use Rattle.macho_image.specs.Records.{Seg, Img, Load, SegmentLoad}
 use Rattle.macho_image.specs.Macho.{header_size, commands_of, loads_of, pieces_of, number_of, segment_loads, segment_with, command_where, install_name_of, is_install_name, is_dylib, dylib_name}
-use Rattle.macho_image.specs.Rules.{is_well_shaped, first_crossing, is_linkedit_segment, is_linkedit_name, is_linkedit, is_text, is_good_text, is_good_linkedit, has_reserved_name, misplaced_behind, misplaced, first_segment, breaks_segment_shape, breaks_segment_prot, breaks_name_text, is_plain_name, is_printable}
+use Rattle.macho_image.specs.Rules.{is_well_shaped, first_crossing, is_linkedit_segment, is_linkedit_name, is_linkedit, is_text, is_good_text, is_good_linkedit, has_reserved_name, misplaced_behind, misplaced, first_segment, breaks_segment_shape, breaks_segment_prot, breaks_name_text, is_plain_name}
+use Rattle.dsc_base.proofs.TextLaws.{IsPlain, plain_is}
 use Rattle.dsc_base.specs.Refusals.{least}
 use Rattle.macho_image.specs.Breaks.{header_break, section_break, name_break, unread, IsSound}
 use Rattle.macho_image.proofs.Images.{pieces_of-loads_from}
@@ -80,10 +80,8 @@ plain-short : (c : List ℕ) → is_plain_name c ≡ true → length (dylib_name
 plain-short c plain =
     let one = both (nat_le 24 (number_at 4 c 8)) _ plain in
     let two = both (nat_lt (number_at 4 c 8 + length (dylib_name c)) (length c)) _ one.1 in
-    let three = both (nat_le 1 (length (dylib_name c))) _ two.1 in
-    let four = both (nat_le (length (dylib_name c)) 1024) (list_all is_printable (dylib_name c)) three.1 in
-    let short : nat_le (length (dylib_name c)) 1024 ≡ true = four.0 in
-    grind (arith, nat_tests)
+    let is : IsPlain (dylib_name c) = plain_is (dylib_name c) two.1 in
+    is.short
 
 name_found : (b : Bool) (l : Load) (o : Option (List ℕ)) → (b ≡ true → length (dylib_name l.bytes) ≤ 1024) → length (install_name_of o) ≤ 1024 → length (install_name_of (cond b (Some l.bytes) o)) ≤ 1024
 name_found true l o here later = here refl

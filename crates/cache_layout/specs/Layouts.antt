@@ -1,9 +1,7 @@
 -- The layout of a set of images, and the set that is too large for one.
-use Rattle.std.specs.Prelude.{◌≡◌, ℕ, ◌+◌, List, nat_lt, if◌then◌else◌, Option, Some, None}
+use Rattle.std.specs.Prelude.{ℕ, ◌+◌, List, nat_lt, if◌then◌else◌, Option, Some, None}
 use Rattle.dsc_base.specs.declared.fault.Span.{Span}
 use Rattle.dsc_base.specs.declared.fault.Break.{Break}
-use Rattle.dsc_base.specs.declared.fault.SetFault.{SetFault}
-use Rattle.dsc_base.specs.declared.fault.SetFault.TheVariants.{Broken, Memory}
 use Rattle.dsc_base.specs.declared.rule.Rule.TheVariants.{SpanTooLarge}
 use Rattle.macho_image.specs.Records.{Img}
 use Rattle.macho_image.specs.declared.place.Moved.{Moved}

@@ -8,4 +8,5 @@ pub mod SignedLaws
 pub mod SlebLaws
 pub mod SpeltLaws
 pub mod StepLaws
+pub mod TextLaws
 pub mod UlebLaws

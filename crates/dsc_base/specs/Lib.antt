@@ -10,4 +10,5 @@ pub mod Refusals
 pub mod Region
 pub mod RuleNames
 pub mod Steps
+pub mod Texts
 pub mod Uleb

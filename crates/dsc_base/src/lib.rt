@@ -30,5 +30,5 @@ pub use outside::{
 };
 pub use region::{PAGE, REGION_SIZE, REGION_START, page_up};
 pub use rule::Rule;
-pub use text::Text;
+pub use text::{Text, is_plain_text};
 pub use uleb::{put_uleb, put_uleb4, read_sleb, read_uleb, uleb_len, uleb4};

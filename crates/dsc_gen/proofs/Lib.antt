@@ -1,7 +1,7 @@
 mod CommandLaws
 mod DrawLaws
 mod ExportLaws
-mod FileLaws
+pub mod FileLaws
 mod ListingLaws
 mod OrderLaws
 mod SmallLaws

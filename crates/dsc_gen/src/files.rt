@@ -1,5 +1,5 @@
 // Files from a number.
-ghost use Rattle.std.specs.Prelude.{◌≡◌, ◌≤◌, map, IfOk};
+ghost use Rattle.std.specs.Prelude.{◌≡◌, ◌≤◌, length, map, IfOk};
 ghost use Rattle.dsc_gen.specs.Files.{IsShape, generated};
 
 use crate::Shape;
@@ -29,7 +29,8 @@ pub fn generate(
     requires some { 1 ≤ count }
     requires few { count ≤ 4096 }
     requires shape { IsShape shape.now }
-    ensures { IfOk result (λ v. map (λ file. file.items) v.items ≡ generated seed count shape.now) }
+    ensures files { IfOk result (λ v. map (λ file. file.items) v.items ≡ generated seed count shape.now) }
+    ensures count { IfOk result (λ v. length v.items ≡ count) }
 {
     let mut generator = Lcg64Xsh32::new(seed, STREAM);
     let mut files = Vec::with_capacity(alloc, count as usize)?;

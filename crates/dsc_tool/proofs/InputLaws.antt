@@ -81,8 +81,3 @@ stopped_at files old since new first names i name earlier before stop inside is 
 pub read_count : (files : Option Files) (names : List (List ℕ)) (inputs : List (Vec ℕ Global)) → AreRead files names (contents inputs) → length inputs ≡ length names
 read_count files names inputs read =
     sym (length-map inputs (λ (f : Vec ℕ Global). f.items)) ∙ sym (length_all_zip (HasFile files) names (contents inputs) read.there)
-
-pub read_small : (files : Option Files) (names : List (List ℕ)) (inputs : List (Vec ℕ Global)) → AreRead files names (contents inputs) → All (λ (f : Vec ℕ Global). length f.items ≤ file_limit) inputs
-read_small files names inputs read k d inside =
-    subst (λ (f : List ℕ). length f ≤ file_limit) (get_or-map (λ (f : Vec ℕ Global). f.items) inputs k d [] inside)
-    (read.within k [] (omega (arith, inside, length-map inputs (λ (f : Vec ℕ Global). f.items))))

@@ -2,10 +2,12 @@ pub mod Clap
 pub mod EndLaws
 pub mod InputLaws
 pub mod ListLaws
+pub mod NumberLaws
 pub mod OutputLaws
 pub mod PrefixLaws
 pub mod ProductLaws
 pub mod ReadingLaws
 pub mod SoundLaws
 pub mod ToldLaws
+pub mod TrialLaws
 pub mod WordLaws

@@ -3,6 +3,7 @@ use Rattle.std.proofs.Common.{◌≡◌, ◌≤◌, ℕ, List, [], length, Optio
 use Rattle.dsc_base.specs.Outside.{Files, HasFile}
 use Rattle.dsc_base.specs.declared.fault.Break.{Break}
 use Rattle.cache_header.specs.Records.{Head}
+use Rattle.cache_build.specs.Always.{CorrespondsAlways}
 use Rattle.cache_build.specs.Breaks.{set_break}
 use Rattle.cache_build.specs.declared.builder.Options.{Options}
 use Rattle.dsc_tool.specs.Options.{delta_bits}
@@ -10,10 +11,10 @@ use Rattle.dsc_tool.specs.declared.stop.Stop.{Stop}
 use Rattle.dsc_tool.specs.declared.stop.Stop.TheVariants.{BadWords, Unread, Refused, Flawed, Memory}
 use Rattle.dsc_tool.specs.Causes.{IsRead, IsMade, IsDue}
 use Rattle.dsc_tool.specs.Inputs.{AreRead, Contents, CacheCause, InputsAreRead, Names, inputs_of}
-use Rattle.dsc_tool.specs.Made.{Made, Promised, build_made, head_made, made, text_made}
-use Rattle.dsc_tool.specs.Steps.{BuildStop, BuildWorks, HeadStop, TextWorks}
+use Rattle.dsc_tool.specs.Made.{Made, Promised, build_made, head_made, made, text_made, trial_files, trial_made, trial_text}
+use Rattle.dsc_tool.specs.Steps.{BuildStop, BuildWorks, HeadStop, TextWorks, TrialStop, TrialWorks}
 use Rattle.dsc_tool.specs.Stops.{cache_limit}
-use Rattle.dsc_tool.specs.Words.{Order, build, command_of}
+use Rattle.dsc_tool.specs.Words.{Order, build, trial, command_of}
 
 -- ---- a build
 
@@ -101,3 +102,31 @@ module _ (order : Order) (text : Head → List ℕ) (name : List ℕ) (reads : i
   head_due old new (Flawed g) (inr (bytes, there, within, (f, is, found))) =
       (order, spelled, inr (only_cache bytes, cache_read bytes there within, makes bytes ∙ (ap (text_made text bytes) found ∙ ap (λ (s : Stop). Err s) (sym is))))
   head_due old new Memory cause = tt
+
+-- ---- trial dylibs
+
+abbrev no_inputs : Contents
+no_inputs = record { cache = None; files = [] }
+
+trial_read : (words : List (List ℕ)) (files : Option Files) (options : Options) (seed count : ℕ) → command_of words ≡ Some (trial options seed count) → IsRead words files (trial options seed count) no_inputs
+trial_read words files options seed count spelled = record { spelled = spelled; inputs = record { cache = tt; rest = no_files files } }
+
+pub trial_product : (words : List (List ℕ)) (files : Option Files) (options : Options) (seed count : ℕ) (m : Made) → command_of words ≡ Some (trial options seed count) → TrialWorks seed count m
+    → (order : Order) × (contents : Contents) × IsMade words files order contents m × Promised order contents
+trial_product words files options seed count m spelled (cache, works, is) = (
+  trial options seed count,
+  no_inputs,
+  record {
+    read = trial_read words files options seed count spelled;
+    made = ap (trial_made (trial_files seed count)) works.unbroken
+        ∙ (ap (λ (c : List ℕ). Ok record { files = []; text = trial_text (trial_files seed count) c }) (sym works.is) ∙ ap (λ (n : Made). Ok n) (sym is));
+  },
+  subst (λ (c : List ℕ). CorrespondsAlways (trial_files seed count) c) works.is works.corresponds,
+)
+
+pub trial_due : (words : List (List ℕ)) (files : Option Files) (old new : ℕ) (options : Options) (seed count : ℕ) (stop : Stop) → command_of words ≡ Some (trial options seed count)
+    → TrialStop seed count stop → IsDue words files old new stop
+trial_due words files old new options seed count stop spelled (inl none) = subst (λ (s : Stop). IsDue words files old new s) (sym none) tt
+trial_due words files old new options seed count stop spelled (inr (b, is, found)) =
+    subst (λ (s : Stop). IsDue words files old new s) (sym is)
+    (trial options seed count, spelled, inr (no_inputs, trial_read words files options seed count spelled, ap (trial_made (trial_files seed count)) found))

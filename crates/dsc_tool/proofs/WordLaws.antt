@@ -4,7 +4,8 @@ use Rattle.std.specs.List.{list_any}
 use Rattle.std.specs.Cmp.Lexicographic.{pointwise}
 use Rattle.std.proofs.lemmas.List.{length-map}
 use Rattle.clap.proofs.WalkLemmas.{list_any-map}
-use Rattle.dsc_tool.specs.Words.{most_inputs, are_inputs}
+use Rattle.dsc_tool.specs.WordNumbers.{most_inputs}
+use Rattle.dsc_tool.specs.Words.{are_inputs}
 
 is_less : (a b : ℕ) → a < b → nat_lt a b ≡ true
 is_less a b lt = grind arith

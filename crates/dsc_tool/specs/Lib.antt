@@ -10,5 +10,6 @@ pub mod Steps
 pub mod Stops
 pub mod Streams
 pub mod Texts
+pub mod WordNumbers
 pub mod WordParts
 pub mod Words

@@ -1,5 +1,6 @@
 -- What an order comes to, by the bytes of its inputs.
 use Rattle.std.specs.Prelude.{ℕ, List, [], ◌∷◌, length, Option, Some, None, unwrap_or, Result, Ok, Err}
+use Rattle.std.specs.List.{sum}
 use Rattle.dsc_base.specs.declared.fault.Break.{Break}
 use Rattle.dsc_base.specs.declared.fault.Finding.{Finding}
 use Rattle.cache_header.specs.Findings.{head_finding}
@@ -8,10 +9,12 @@ use Rattle.cache_header.specs.Records.{Head}
 use Rattle.cache_build.specs.Always.{CorrespondsAlways}
 use Rattle.cache_build.specs.Breaks.{set_break}
 use Rattle.cache_build.specs.Built.{built}
+use Rattle.cache_check.specs.Views.{view_of}
+use Rattle.dsc_gen.specs.Files.{generated}
 use Rattle.dsc_tool.specs.Options.{delta_bits}
 use Rattle.dsc_tool.specs.Inputs.{Contents}
-use Rattle.dsc_tool.specs.Texts.{built_line, list_text, info_text}
-use Rattle.dsc_tool.specs.Words.{Order, build, list, info}
+use Rattle.dsc_tool.specs.Texts.{built_line, list_text, info_text, trial_line}
+use Rattle.dsc_tool.specs.Words.{Order, build, list, info, trial}
 use Rattle.dsc_tool.specs.declared.stop.Stop.{Stop}
 use Rattle.dsc_tool.specs.declared.stop.Stop.TheVariants.{Refused, Flawed}
 
@@ -40,13 +43,28 @@ text_made text cache None = Ok record { files = []; text = text (head_read cache
 abbrev pub head_made : (Head → List ℕ) → List ℕ → Result Made Stop
 head_made text cache = text_made text cache (head_finding cache)
 
+-- trial dylibs: text and data of four pages each, with 100 pointers and deltas and with 20 links
+abbrev pub trial_files : ℕ → ℕ → List (List ℕ)
+trial_files seed count = generated seed count (record { pages = 4; pointers = 100; links = 20 })
+
+-- what is told of files and their cache: how many they are, how many words slide in it, how long it is, and what its bytes are together
+abbrev pub trial_text : List (List ℕ) → List ℕ → List ℕ
+trial_text files cache = trial_line (length files) (length (view_of cache).words) (span cache) (sum cache)
+
+-- of trial dylibs, by the first rule that they break
+abbrev pub trial_made : List (List ℕ) → Option Break → Result Made Stop
+trial_made files (Some b) = Err (Refused b)
+trial_made files None = Ok record { files = []; text = trial_text files (built delta_bits files) }
+
 abbrev pub made : Order → Contents → Result Made Stop
 made (build options out names) c = build_made out c.files (set_break delta_bits c.files)
 made (list name) c = head_made list_text (unwrap_or c.cache [])
 made (info name) c = head_made info_text (unwrap_or c.cache [])
+made (trial options seed count) c = trial_made (trial_files seed count) (set_break delta_bits (trial_files seed count))
 
--- what is true of it: the cache that is built corresponds to its files
+-- what is true of it: a cache that is built corresponds to its files
 abbrev pub Promised : Order → Contents → Type 0
 Promised (build options out names) c = CorrespondsAlways c.files (built delta_bits c.files)
 Promised (list name) c = Unit {0}
 Promised (info name) c = Unit {0}
+Promised (trial options seed count) c = CorrespondsAlways (trial_files seed count) (built delta_bits (trial_files seed count))

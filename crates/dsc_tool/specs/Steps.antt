@@ -1,13 +1,15 @@
 -- What the parts of a run leave to one another.
 use Rattle.std.specs.Prelude.{◌≡◌, ◌<◌, ◌≤◌, ◌⊎◌, ℕ, List, [], map, take, length, get_or, Option, Some, None, Err}
 use Rattle.dsc_base.specs.Outside.{Files, HasFile, Rose, AppendsPrefix, LeavesPrefix}
+use Rattle.dsc_base.specs.declared.fault.Break.{Break}
 use Rattle.dsc_base.specs.declared.fault.Finding.{Finding}
 use Rattle.cache_header.specs.Findings.{head_finding}
-use Rattle.cache_header.specs.Reading.{head_read}
+use Rattle.cache_header.specs.Reading.{span, head_read}
 use Rattle.cache_header.specs.Records.{Head}
 use Rattle.cache_build.specs.Always.{CorrespondsAlways}
 use Rattle.cache_build.specs.Breaks.{set_break}
 use Rattle.cache_build.specs.Built.{built}
+use Rattle.cache_build.specs.Sound.{IsSoundCache}
 use Rattle.dsc_tool.specs.Options.{delta_bits}
 use Rattle.dsc_base.specs.declared.outside.store.PutFault.{PutFault}
 use Rattle.dsc_base.specs.declared.outside.store.PutFault.TheVariants.{Failed, Memory as PutMemory}
@@ -16,10 +18,10 @@ use Rattle.dsc_tool.specs.declared.product.NewFile.{NewFile}
 use Rattle.dsc_tool.specs.declared.status.Status.{Status}
 use Rattle.dsc_tool.specs.declared.status.Status.TheVariants.{Done, Refused, BadWords, ReadFault, WriteFault, Memory, Differs}
 use Rattle.dsc_tool.specs.declared.stop.Stop.{Stop}
-use Rattle.dsc_tool.specs.declared.stop.Stop.TheVariants.{Flawed}
+use Rattle.dsc_tool.specs.declared.stop.Stop.TheVariants.{Refused as Broken, Flawed, Memory as NoMemory}
 use Rattle.dsc_tool.specs.Causes.{IsMade}
 use Rattle.dsc_tool.specs.Inputs.{AreRead, CacheCause, Contents, FilesCause}
-use Rattle.dsc_tool.specs.Made.{Made, Promised, build_made, cache_made}
+use Rattle.dsc_tool.specs.Made.{Made, Promised, build_made, cache_made, trial_files, trial_text}
 use Rattle.dsc_tool.specs.Statuses.{status_of}
 use Rattle.dsc_tool.specs.Stops.{cache_limit}
 use Rattle.dsc_tool.specs.Streams.{World, appended, with_files}
@@ -70,6 +72,23 @@ abbrev pub HeadStop : Option Files → ℕ → ℕ → List ℕ → Stop → Typ
 HeadStop files old new name stop =
     CacheCause files old new name stop
     ⊎ ((bytes : List ℕ) × HasFile files name bytes × (length bytes ≤ cache_limit) × ((f : Finding) × (stop ≡ Flawed f) × (head_finding bytes ≡ Some f)))
+
+-- the cache of trial dylibs, which break no rule
+pub record IsTrialCache (seed count : ℕ) (cache : List ℕ) : Type 0 where
+  pub unbroken : set_break delta_bits (trial_files seed count) ≡ None
+  pub is : cache ≡ built delta_bits (trial_files seed count)
+  pub sound : IsSoundCache cache
+  pub span_is : span cache ≡ length cache
+  pub corresponds : CorrespondsAlways (trial_files seed count) cache
+
+-- and a text on it is made
+abbrev pub TrialWorks : ℕ → ℕ → Made → Type 0
+TrialWorks seed count m =
+    (cache : List ℕ) × IsTrialCache seed count cache × (m ≡ record { files = []; text = trial_text (trial_files seed count) cache })
+
+-- memory was wanting, or trial dylibs break a rule
+abbrev pub TrialStop : ℕ → ℕ → Stop → Type 0
+TrialStop seed count stop = (stop ≡ NoMemory) ⊎ ((b : Break) × (stop ≡ Broken b) × (set_break delta_bits (trial_files seed count) ≡ Some b))
 
 -- ---- what is told on standard error
 

@@ -61,12 +61,18 @@ abbrev pub info_text : Head → List ℕ
 info_text h =
     mapping_lines h.mappings ++ images_line (length h.images) ++ slide_info_line h.slide_info ++ uuid_line h.uuid ++ max_slide_line h.max_slide
 
+-- `trial`: so many images were built to a cache of this span, in which so many words slide, and whose bytes come to this sum
+unfoldable pub trial_line : ℕ → ℕ → ℕ → ℕ → List ℕ
+trial_line images words span bytes_sum =
+    codes "trial: " ++ (decimal images ++ (codes " images, " ++ (decimal words ++ (codes " words, span 0x" ++ (hex span ++ (codes ", sum " ++ (decimal bytes_sum ++ line_feed)))))))
+
 -- ---- on standard error
 
 -- the commands that there are
 unfoldable pub usage_text : List ℕ
 usage_text =
-    codes "usage: dsc build [--jobs N] OUT IN..." ++ (line_feed ++ (codes "       dsc list CACHE" ++ (line_feed ++ (codes "       dsc info CACHE" ++ line_feed))))
+    codes "usage: dsc build [--jobs N] OUT IN..." ++ (line_feed ++ (codes "       dsc list CACHE" ++ (line_feed ++ (codes "       dsc info CACHE"
+    ++ (line_feed ++ (codes "       dsc trial [--jobs N] SEED COUNT" ++ line_feed))))))
 
 unfoldable pub refused_line : Break → List ℕ
 refused_line b =

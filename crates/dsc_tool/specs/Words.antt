@@ -1,43 +1,23 @@
 -- The words behind the program's name, and the order that they spell.
-use Rattle.std.specs.Prelude.{◌≡◌, ◌≤◌, ◌+◌, ◌-◌, ◌*◌, ℕ, List, [], ◌∷◌, Bool, false, not, ◌&&◌, nat_eq, nat_lt, nat_le, if◌then◌else◌, Option, Some, None, option_map, option_and_then, length, codes}
+use Rattle.std.specs.Prelude.{◌≡◌, ◌≤◌, ℕ, List, [], ◌∷◌, Bool, false, not, ◌&&◌, nat_eq, nat_lt, nat_le, if◌then◌else◌, Option, Some, None, option_map, option_and_then, length, codes}
 use Rattle.std.specs.List.{list_any}
 use Rattle.std.specs.Cmp.Lexicographic.{pointwise}
 use Rattle.cache_build.specs.declared.builder.Options.{Options}
 use Rattle.dsc_tool.specs.Options.{delta_bits}
 use Rattle.dsc_tool.specs.declared.command.Command.{Command}
-use Rattle.dsc_tool.specs.declared.command.Command.TheVariants.{Build, List as ListImages, Info}
+use Rattle.dsc_tool.specs.declared.command.Command.TheVariants.{Build, List as ListImages, Info, Trial}
 use Rattle.dsc_tool.specs.declared.command.WordsFault.{WordsFault}
 use Rattle.dsc_tool.specs.declared.command.WordsFault.TheVariants.{BadWords, Memory}
+use Rattle.dsc_tool.specs.WordNumbers.{most_inputs, jobs_of, seed_of, count_of}
 use Rattle.dsc_tool.specs.WordParts.{Parts, parts}
 
--- what is asked for: that a cache is built as the options say and put at a name, from inputs in their order; that the images of a cache are listed; that the head of a cache is told
+-- what is asked for: that a cache is built as the options say and put at a name, from inputs in their order; that the images of a cache are listed; that the head of a cache is told;
+-- that a cache of so many trial dylibs is built as the options say, from a seed
 pub data Order : Type 0 where
   build : Options → List ℕ → List (List ℕ) → Order
   list : List ℕ → Order
   info : List ℕ → Order
-
--- the most inputs that a command takes
-abbrev pub most_inputs : ℕ
-most_inputs = 4096
-
--- ---- the number of jobs
-
-abbrev pub digit : ℕ → Option ℕ
-digit c = if nat_le 48 c && nat_le c 57 then Some (c - 48) else None
-
--- the number that one or two decimal digits spell
-abbrev pub short_number : List ℕ → Option ℕ
-short_number (one ∷ []) = digit one
-short_number (ten ∷ one ∷ []) = option_and_then (λ t. option_map (λ n. 10 * t + n) (digit one)) (digit ten)
-short_number _ = None
-
-abbrev pub from_1_to_64 : ℕ → Option ℕ
-from_1_to_64 n = if nat_le 1 n && nat_le n 64 then Some n else None
-
--- 1 where the words don't tell it
-abbrev pub jobs_of : Option (List ℕ) → Option ℕ
-jobs_of None = Some 1
-jobs_of (Some text) = option_and_then from_1_to_64 (short_number text)
+  trial : Options → ℕ → ℕ → Order
 
 -- ---- the commands
 
@@ -46,9 +26,11 @@ abbrev pub are_inputs : List ℕ → List (List ℕ) → Bool
 are_inputs out names =
     (nat_lt 0 (length names) && nat_le (length names) most_inputs) && not (list_any (λ name. pointwise nat_eq name out) names)
 
+abbrev pub with_jobs : ℕ → Options
+with_jobs jobs = record { jobs = jobs; delta_bits = delta_bits }
+
 abbrev pub build_of : Option ℕ → List (List ℕ) → Option Order
-build_of (Some jobs) (out ∷ names) =
-    if are_inputs out names then Some (build (record { jobs = jobs; delta_bits = delta_bits }) out names) else None
+build_of (Some jobs) (out ∷ names) = if are_inputs out names then Some (build (with_jobs jobs) out names) else None
 build_of _ _ = None
 
 -- `build [--jobs N] OUT IN...`, without its first word
@@ -64,6 +46,18 @@ only_word _ = None
 abbrev pub cache_word : Parts → Option (List ℕ)
 cache_word p = only_word p.plain
 
+abbrev pub trial_with : ℕ → Option ℕ → Option ℕ → Option Order
+trial_with jobs (Some seed) (Some count) = Some (trial (with_jobs jobs) seed count)
+trial_with jobs _ _ = None
+
+abbrev pub trial_of : Option ℕ → List (List ℕ) → Option Order
+trial_of (Some jobs) (seed ∷ count ∷ []) = trial_with jobs (seed_of seed) (count_of count)
+trial_of _ _ = None
+
+-- `trial [--jobs N] SEED COUNT`, without its first word
+abbrev pub trial_order : Parts → Option Order
+trial_order p = trial_of (jobs_of p.value) p.plain
+
 abbrev pub is_word : List ℕ → List ℕ → Bool
 is_word word name = pointwise nat_eq word name
 
@@ -72,7 +66,8 @@ command_of [] = None
 command_of (word ∷ rest) =
     if is_word word (codes "build") then option_and_then build_order (parts (Some (codes "jobs")) false rest)
     else (if is_word word (codes "list") then option_map list (option_and_then cache_word (parts None false rest))
-    else (if is_word word (codes "info") then option_map info (option_and_then cache_word (parts None false rest)) else None))
+    else (if is_word word (codes "info") then option_map info (option_and_then cache_word (parts None false rest))
+    else (if is_word word (codes "trial") then option_and_then trial_order (parts (Some (codes "jobs")) false rest) else None)))
 
 -- ---- a command of the program
 
@@ -81,6 +76,7 @@ abbrev pub order_of : Command → Order
 order_of (Build options out inputs) = build options out inputs.items
 order_of (ListImages cache) = list cache
 order_of (Info cache) = info cache
+order_of (Trial options seed count) = trial options seed count
 
 -- a build has 1 to 64 jobs, and the number of bits that all builds have, and 1 to 4,096 inputs
 pub record IsBuild (options : Options) (names : List (List ℕ)) : Type 0 where
@@ -88,10 +84,17 @@ pub record IsBuild (options : Options) (names : List (List ℕ)) : Type 0 where
   pub bits : options.delta_bits ≡ delta_bits
   pub few : (1 ≤ length names) × (length names ≤ most_inputs)
 
+-- a trial likewise, of 1 to 4,096 dylibs
+pub record IsTrial (options : Options) (count : ℕ) : Type 0 where
+  pub jobs : (1 ≤ options.jobs) × (options.jobs ≤ 64)
+  pub bits : options.delta_bits ≡ delta_bits
+  pub few : (1 ≤ count) × (count ≤ most_inputs)
+
 abbrev pub IsWithin : Command → Type 0
 IsWithin (Build options out inputs) = IsBuild options inputs.items
 IsWithin (ListImages cache) = Unit {0}
 IsWithin (Info cache) = Unit {0}
+IsWithin (Trial options seed count) = IsTrial options count
 
 -- words are bad exactly where they spell nothing; memory may be wanting at any time
 abbrev pub IsWordsFault : {X : Type 0} → Option X → WordsFault → Type 0

@@ -1,9 +1,10 @@
 // The words of the command line, and the command that they spell.
-ghost use Rattle.std.specs.Prelude.{◌≡◌, IfOk, IfErr, Some, None, map, option_map, option_and_then, string_bytes, codes, false};
+ghost use Rattle.std.specs.Prelude.{◌≡◌, IfOk, IfErr, Some, None, map, option_and_then, string_bytes, codes, false};
 ghost use Rattle.dsc_tool.specs.WordParts.{parts};
-ghost use Rattle.dsc_tool.specs.Words.{command_of, order_of, build_order, cache_word, jobs_of, short_number, digit, are_inputs, IsWithin, IsWordsFault};
+ghost use Rattle.dsc_tool.specs.Words.{command_of, order_of, build_order, with_jobs, cache_word, trial_order, are_inputs, IsWithin, IsWordsFault};
 ghost use Rattle.dsc_tool.specs.declared.command.WordsFault.TheVariants as faults;
 
+use crate::number::{MOST_INPUTS, count_of, jobs_of, seed_of};
 use crate::split::split_words;
 use cache_build::Options;
 use dsc_base::{NoMemory, Text};
@@ -26,6 +27,12 @@ pub enum Command {
     Info {
         cache: Text,
     },
+    /// Builds a cache of trial dylibs, whose contents the seed decides, and tells of it.
+    Trial {
+        options: Options,
+        seed: u64,
+        count: u32,
+    },
 }
 
 /// Why the words gave no command.
@@ -37,9 +44,6 @@ pub enum WordsFault {
     Memory,
 }
 
-/// The most inputs that a command takes.
-const MOST_INPUTS: usize = 4096;
-
 /// How many bits of a pointer tell the distance to the next one of its chain.
 const DELTA_BITS: u32 = 16;
 
@@ -48,7 +52,9 @@ const DELTA_BITS: u32 = 16;
 /// * `build [--jobs N] OUT IN...`, with N from 1 to 64, of one or two decimal digits, and 1 to 4,096 inputs,
 ///   none of which is OUT;
 /// * `list CACHE`;
-/// * `info CACHE`.
+/// * `info CACHE`;
+/// * `trial [--jobs N] SEED COUNT`, with SEED below 2^64, of 1 to 20 decimal digits, and COUNT from 1 to 4,096, of
+///   1 to 4 digits.
 ///
 /// An option may stand before, between or after the other words, as `--jobs N` or `--jobs=N`, and once. `--`
 /// ends the options; before it, a word that begins with a dash and isn't a dash alone is an option.
@@ -71,6 +77,8 @@ pub fn read_words(alloc: Global, words: &[String]) -> Result<Command, WordsFault
     } else if name == "info" {
         let cache = read_cache_name(alloc, rest)?;
         Ok(Command::Info { cache })
+    } else if name == "trial" {
+        read_trial(alloc, rest)
     } else {
         Err(WordsFault::BadWords)
     }
@@ -95,13 +103,46 @@ fn read_build(alloc: Global, words: &[String]) -> Result<Command, WordsFault>
     let out = Text::from_str(alloc, out)?;
     let inputs = copy_names(alloc, inputs)?;
     Ok(Command::Build {
-        options: Options {
-            jobs,
-            delta_bits: DELTA_BITS,
-        },
+        options: with_jobs(jobs),
         out,
         inputs,
     })
+}
+
+// The trial that the words behind its name ask for.
+fn read_trial(alloc: Global, words: &[String]) -> Result<Command, WordsFault>
+    ensures spelled { IfOk result (λ c. option_and_then trial_order (parts (Some (codes "jobs")) false (map string_bytes words.now)) ≡ Some (order_of c)) }
+    ensures within { IfOk result IsWithin }
+    ensures cause { IfErr result (IsWordsFault (option_and_then trial_order (parts (Some (codes "jobs")) false (map string_bytes words.now)))) }
+{
+    let split = split_words(alloc, Some("jobs"), words)?;
+    let Some(jobs) = jobs_of(split.value) else {
+        return Err(WordsFault::BadWords);
+    };
+    let [seed, count] = split.plain.as_slice() else {
+        return Err(WordsFault::BadWords);
+    };
+    let Some(seed) = seed_of(seed) else {
+        return Err(WordsFault::BadWords);
+    };
+    let Some(count) = count_of(count) else {
+        return Err(WordsFault::BadWords);
+    };
+    Ok(Command::Trial {
+        options: with_jobs(jobs),
+        seed,
+        count,
+    })
+}
+
+// How to build with so many jobs.
+fn with_jobs(jobs: u32) -> Options
+    ensures { result ≡ with_jobs jobs }
+{
+    Options {
+        jobs,
+        delta_bits: DELTA_BITS,
+    }
 }
 
 // The name of the cache, which is the one word behind a command's name.
@@ -114,42 +155,6 @@ fn read_cache_name(alloc: Global, words: &[String]) -> Result<Text, WordsFault>
         return Err(WordsFault::BadWords);
     };
     Ok(Text::from_str(alloc, cache)?)
-}
-
-// The number of jobs that the option's value tells, and 1 where there is none.
-fn jobs_of(value: Option<&str>) -> Option<u32>
-    ensures { result ≡ jobs_of (option_map (λ text. text.now) value.entry) }
-{
-    let Some(text) = value else {
-        return Some(1);
-    };
-    let jobs = short_number(text.as_bytes())?;
-    if 1 <= jobs && jobs <= 64 {
-        Some(jobs)
-    } else {
-        None
-    }
-}
-
-// The number that one or two decimal digits spell.
-fn short_number(digits: &[u8]) -> Option<u32>
-    ensures { result ≡ short_number digits.now }
-{
-    match digits {
-        [one] => digit(*one),
-        [ten, one] => Some(10 * digit(*ten)? + digit(*one)?),
-        _ => None,
-    }
-}
-
-fn digit(byte: u8) -> Option<u32>
-    ensures { result ≡ digit byte }
-{
-    if 48 <= byte && byte <= 57 {
-        Some(u32::from(byte) - 48)
-    } else {
-        None
-    }
 }
 
 // Whether the names may be the inputs of the cache that is put at `out`.

@@ -4,7 +4,7 @@ ghost use Rattle.load_model.specs.Phases.{contents};
 ghost use Rattle.dsc_base.specs.Outside.{HasFile};
 ghost use Rattle.dsc_tool.specs.Inputs.{AreRead, CacheCause, FileCause, FilesCause};
 ghost use Rattle.dsc_tool.specs.Stops.{cache_limit, file_limit, input_limit};
-ghost use Rattle.dsc_tool.specs.Words.{most_inputs};
+ghost use Rattle.dsc_tool.specs.WordNumbers.{most_inputs};
 
 use crate::stop::{CACHE_LIMIT, FILE_LIMIT, INPUT_LIMIT, Stop, unread_cache, unread_file};
 use dsc_base::{Break, Rule, Store, Text};

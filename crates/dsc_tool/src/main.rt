@@ -9,12 +9,14 @@ ghost use Rattle.dsc_tool.specs.Statuses.{code_of};
 mod cache_text;
 mod command;
 mod inputs;
+mod number;
 mod product;
 mod run;
 mod split;
 mod status;
 mod stop;
 mod text;
+mod trial;
 
 pub use command::{Command, WordsFault, read_words};
 use dsc_base::{FileStore, OpenGate, WriterSink};

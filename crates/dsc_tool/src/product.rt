@@ -1,15 +1,16 @@
 // What the words come to before anything is put.
 ghost use Rattle.std.specs.Prelude.{◌≡◌, [], ◌∷◌, IfOk, IfErr, map, string_bytes};
 ghost use Rattle.dsc_tool.specs.Causes.{IsDue};
-ghost use Rattle.dsc_tool.specs.Steps.{IsProduct, made_of, BuildWorks, BuildStop, HasHead, TextWorks, HeadStop};
+ghost use Rattle.dsc_tool.specs.Steps.{IsProduct, made_of, BuildWorks, BuildStop, HasHead, TextWorks, HeadStop, TrialWorks, TrialStop};
 ghost use Rattle.dsc_tool.specs.Texts.{list_text, info_text};
-ghost use Rattle.dsc_tool.specs.Words.{IsBuild};
+ghost use Rattle.dsc_tool.specs.Words.{IsBuild, IsTrial};
 
 use crate::cache_text::{info_text, list_text};
 use crate::command::{Command, read_words};
 use crate::inputs::{read_cache, read_files};
 use crate::stop::Stop;
 use crate::text::built_text;
+use crate::trial::{summary, trial_cache};
 use cache_build::{Options, build};
 use cache_header::{CacheHead, read_cache_head};
 use dsc_base::{Gate, Store, Text};
@@ -52,6 +53,11 @@ pub(crate) fn prepare<R: Threads + Sync, S: Store, G: Gate + Sync>(
         } => prepare_build(rt, alloc, &options, out, &inputs, store, gate),
         Command::List { cache } => prepare_list(alloc, cache.as_str(), store),
         Command::Info { cache } => prepare_info(alloc, cache.as_str(), store),
+        Command::Trial {
+            options,
+            seed,
+            count,
+        } => prepare_trial(rt, alloc, &options, seed, count, gate),
     }
 }
 
@@ -112,6 +118,24 @@ fn prepare_info<S: Store>(alloc: Global, name: &str, store: &mut S) -> Result<Pr
     let head = read_head(alloc, name, store)?;
     let text = info_text(alloc, &head)?;
     Ok(only_text(alloc, text))
+}
+
+// The line that tells of the cache of trial dylibs.
+fn prepare_trial<R: Threads + Sync, G: Gate + Sync>(
+    rt: &R,
+    alloc: Global,
+    options: &Options,
+    seed: u64,
+    count: u32,
+    gate: &G,
+) -> Result<Product, Stop>
+    requires { IsTrial options.now count }
+    ensures product { IfOk result (λ p. TrialWorks seed count (made_of p)) }
+    ensures stop { IfErr result (TrialStop seed count) }
+{
+    let cache = trial_cache(rt, alloc, options, seed, count, gate)?;
+    let line = summary(alloc, count, &cache)?;
+    Ok(only_text(alloc, line.into_bytes()))
 }
 
 fn only_text(alloc: Global, text: Vec<u8>) -> Product

@@ -21,10 +21,11 @@ use std::thread::Threads;
 ///
 /// `build [--jobs N] OUT IN...` reads the files IN from the store in their order, at most 67,108,864 bytes of
 /// each and 536,870,912 of all, puts their cache at OUT, and tells of it on `out`. `list CACHE` and
-/// `info CACHE` read a cache of at most 2,147,483,648 bytes and tell of it on `out`. Any other answer than
-/// `Done` is told of on `err`. Nothing is put before the inputs have passed all rules, or the cache has no
-/// finding that the command looks for. Where a put on the store or a sink fails, the answer is `WriteFault`,
-/// whatever it would have been.
+/// `info CACHE` read a cache of at most 2,147,483,648 bytes and tell of it on `out`. `trial [--jobs N] SEED COUNT`
+/// builds the cache of COUNT trial dylibs, whose contents SEED decides, puts nothing, and tells of the cache on
+/// `out`. Any other answer than `Done` is told of on `err`. Nothing is put before the inputs have passed all
+/// rules, or the cache has no finding that the command looks for. Where a put on the store or a sink fails, the
+/// answer is `WriteFault`, whatever it would have been.
 pub fn run<R: Threads + Sync, S: Store, O: Sink, E: Sink, G: Gate + Sync>(
     rt: &R,
     alloc: Global,

@@ -5,6 +5,7 @@ mod pointers;
 mod refusals;
 mod sets;
 mod tables;
+mod trials;
 mod words;
 
 use crate::{Status, run};

@@ -1,6 +1,6 @@
 // What a run prints, but for what it tells of a cache.
 ghost use Rattle.std.specs.Prelude.{◌≡◌, IfOk, string_bytes};
-ghost use Rattle.dsc_tool.specs.Texts.{usage_text, cannot_write_line, no_memory_line, cannot_read_line, refused_line, flawed_line, built_line};
+ghost use Rattle.dsc_tool.specs.Texts.{usage_text, cannot_write_line, no_memory_line, cannot_read_line, refused_line, flawed_line, built_line, trial_line};
 
 use dsc_base::{Break, Finding, NoMemory};
 use std::alloc::Global;
@@ -10,7 +10,7 @@ use std::alloc::Global;
 pub(crate) fn usage_text() -> &'static str
     ensures { result.now ≡ usage_text }
 {
-    "usage: dsc build [--jobs N] OUT IN...\n       dsc list CACHE\n       dsc info CACHE\n"
+    "usage: dsc build [--jobs N] OUT IN...\n       dsc list CACHE\n       dsc info CACHE\n       dsc trial [--jobs N] SEED COUNT\n"
 }
 
 /// A file or standard output was not written.
@@ -65,4 +65,21 @@ pub(crate) fn built_text(alloc: Global, images: u32, span: u64) -> Result<String
     ensures { IfOk result (λ text. string_bytes text ≡ built_line images span) }
 {
     Ok(format!(in alloc; "built {images} images, span 0x{span:x}\n")?)
+}
+
+/// So many trial dylibs were built to a cache of this span, in bytes, in which so many words slide, and whose
+/// bytes come to this sum.
+#[tactic(auto, unfolding(crate::specs::Texts::trial_line))]
+pub(crate) fn trial_text(
+    alloc: Global,
+    images: u32,
+    words: usize,
+    span: u64,
+    bytes_sum: u64,
+) -> Result<String, NoMemory>
+    ensures { IfOk result (λ text. string_bytes text ≡ trial_line images words span bytes_sum) }
+{
+    Ok(format!(in alloc;
+        "trial: {images} images, {words} words, span 0x{span:x}, sum {bytes_sum}\n"
+    )?)
 }

@@ -15,7 +15,7 @@ use Rattle.linkedit_merge.specs.Sizes.{own_streams, own_at, all_streams, spans_o
 use Rattle.linkedit_merge.proofs.PartLaws.{end-append, joined-append, spans-append, length-joined}
 
 -- the exports of a number
-pub exports_there : (vs : List (Vec Export Global)) (n : ℕ) (v : Vec Export Global) → n < length vs → v ≡ get_or vs n v → v.items ≡ get_or (map (λ e. e.items) vs) n []
+exports_there : (vs : List (Vec Export Global)) (n : ℕ) (v : Vec Export Global) → n < length vs → v ≡ get_or vs n v → v.items ≡ get_or (map (λ e. e.items) vs) n []
 exports_there vs n v within is = sym (get_or-map (λ (e : Vec Export Global). e.items) vs n v [] within ∙ ap (λ (e : Vec Export Global). e.items) (sym is))
 
 -- ---- ends
@@ -60,6 +60,17 @@ pub record IsNext (exports : List (List Export)) (images : List Img) (n : ℕ) (
   pub image_is : image ≡ get_or images n image
   pub streams_is : streams ≡ image.streams
   pub own_is : own ≡ get_or exports n []
+
+-- what a loop over images and their exports has at a number
+pub is_next : (vs : List (Vec Export Global)) (images : List Img) (n : ℕ) (image : Img) (v : Vec Export Global) (streams : StreamBytes) (own : List Export) → length vs ≡ length images → n < length images
+    → image ≡ get_or images n image → v ≡ get_or vs n v → streams ≡ image.streams → own ≡ v.items → IsNext (map (λ e. e.items) vs) images n streams own
+is_next vs images n image v streams own one_each within image_is v_is streams_is own_is = record {
+  image = image;
+  within = within;
+  image_is = image_is;
+  streams_is = streams_is;
+  own_is = own_is ∙ exports_there vs n v (omega (arith, one_each, within)) v_is;
+}
 
 whole_next : (exports : List (List Export)) (images : List Img) (n : ℕ) (streams : StreamBytes) (own : List Export) → IsNext exports images n streams own
     → all_streams exports (take (n + 1) images) ≡ all_streams exports (take n images) ++ own_streams streams own

@@ -1,5 +1,5 @@
 -- The parts of the shares are those that are put, with the same size.
-use Rattle.std.proofs.Common.{◌≡◌, ◌≤◌, ◌<◌, ℕ, ◌+◌, List, [], ◌∷◌, ◌++◌, length, map, get_or, refl, sym, ap, ap₂, ◌∙◌, arith, subst, Option, Some, None, Bool, true, false}
+use Rattle.std.proofs.Common.{◌≡◌, ◌≤◌, ◌<◌, ℕ, ◌+◌, List, [], ◌∷◌, ◌++◌, Vec, Global, length, map, get_or, refl, sym, ap, ap₂, ◌∙◌, arith, subst, Option, Some, None, Bool, true, false}
 use Rattle.std.specs.Prelude.{nat_lt, if◌then◌else◌, Result, Ok, Err}
 use Rattle.std.specs.Result.{IsErrAnd}
 use Rattle.std.proofs.lemmas.Bool.{cond-true, cond-false, lt-ltb, le-ltb, ltb-false}
@@ -99,12 +99,33 @@ size_is images tables moves exports names many exports_is names_is =
     ∙ (end-append 0 (lens_of own) (lens_of (tables_in names shares))
     ∙ ap₂ (λ (m n : ℕ). end_behind (end_behind 0 (lens_of own)) (m ∷ n ∷ pool_len names ∷ [])) (long_symbols names images tables moves many) indirect))
 
+-- the moved exports, passed on
+pub passed_on : (passed given : List (Vec Export Global)) (exports : List (List Export)) → passed ≡ given → map (λ e. e.items) given ≡ exports → map (λ e. e.items) passed ≡ exports
+passed_on passed given exports same moved = ap (λ (l : List (Vec Export Global)). map (λ (e : Vec Export Global). e.items) l) same ∙ moved
+
+pub one_each : (passed given : List (Vec Export Global)) (images : List Img) (moves : List (List Moved)) → passed ≡ given → map (λ e. e.items) given ≡ numbered (moved_at moves) images → length passed ≡ length images
+one_each passed given images moves same moved =
+    sym (length-map passed (λ (e : Vec Export Global). e.items))
+    ∙ (ap (λ (l : List (List Export)). length l) (passed_on passed given (numbered (moved_at moves) images) same moved) ∙ length-numbered (moved_at moves) images)
+
+-- what is measured with a pool of the names is the size
+pub measured : (images : List Img) (tables : List Tabs) (moves : List (List Moved)) (exports : List (List Export)) (names : List (List ℕ)) (pool whole : ℕ) → length tables ≡ length images → exports ≡ numbered (moved_at moves) images
+    → names ≡ pooled_behind [] (flat_map symbol_names (flat_map (λ (t : Tabs). t.symbols) tables)) → pool ≡ pool_len names → whole ≡ whole_size exports images tables pool → whole ≡ linkedit_size (shares_of images tables moves)
+measured images tables moves exports names pool whole many exports_is names_is pool_is whole_is =
+    whole_is
+    ∙ (ap (λ (n : ℕ). whole_size exports images tables n) pool_is ∙ sym (size_is images tables moves exports names many exports_is (names_is ∙ sym (names_are images tables moves many))))
+
 -- ---- the refusal
 
 pub breaks_where : (layout : Laid) (slide : ℕ) (shares : List Share) → span_limit < linkedit_start layout slide + paged (linkedit_size shares) → merge_break layout slide shares ≡ Some too_large
 unfolding merge_break
 breaks_where layout slide shares above =
     cond-true (nat_lt span_limit (linkedit_start layout slide + paged (linkedit_size shares))) (Some too_large) None (lt-ltb span_limit (linkedit_start layout slide + paged (linkedit_size shares)) above)
+
+-- slide information that is too long alone
+pub slide_breaks : (layout : Laid) (slide : ℕ) (shares : List Share) → span_limit < slide → merge_break layout slide shares ≡ Some too_large
+unfolding linkedit_start paged
+slide_breaks layout slide shares above = breaks_where layout slide shares (omega (arith, above))
 
 pub fits_where : (layout : Laid) (slide : ℕ) (shares : List Share) → linkedit_start layout slide + paged (linkedit_size shares) ≤ span_limit → merge_break layout slide shares ≡ None
 unfolding merge_break

@@ -184,7 +184,7 @@ fn merge_images(
 /// slide information that stands before the linkedit.
 ///
 /// No export lies outside of the segments or in `__LINKEDIT`, `tables` has what `read_tables` gives of each
-/// image, and `layout` what `lay_out` gives of all. `slide_size` is at most `SPAN_LIMIT`.
+/// image, and `layout` what `lay_out` gives of all.
 ///
 /// `LinkeditTooLarge` of image 0, at `SPAN_LIMIT`, says that the cache would span more than that; sizes alone tell it, so no
 /// bytes of a linkedit are allocated before. `Memory` says that memory ran out. Time and memory are in proportion to the bytes of the
@@ -201,7 +201,6 @@ pub fn merge(
     requires tables { HaveTables set.now.images.now tables.now }
     requires layout { layout.now ≡ layout_of set.now.images.now }
     requires fits { layout_break set.now.images.now ≡ None }
-    requires slide { slide_size ≤ span_limit }
     ensures bytes { IfOk result (λ r. r.0.items ≡ spec.linkedit_of (shares_of set.now.images.now tables.now layout.now.moves)) }
     ensures spots { IfOk result (λ r. r.1.items ≡ spec.spots_of (spec.linkedit_start layout.now slide_size) (shares_of set.now.images.now tables.now layout.now.moves)) }
     ensures cause { RefusesSet (spec.merge_break layout.now slide_size (shares_of set.now.images.now tables.now layout.now.moves)) result }
@@ -210,5 +209,8 @@ pub fn merge(
     // Each trie is accepted, and its exports are the moved ones.
     ensures exports { OnOk result (HaveMovedTries set.now.images.now layout.now.moves) }
 {
+    if slide_size > SPAN_LIMIT {
+        return Err(SetFault::Broken(too_large()));
+    }
     merge_images(alloc, set.images, tables, layout, slide_size)
 }

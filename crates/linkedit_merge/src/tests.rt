@@ -10,6 +10,7 @@ ghost use Rattle.linkedit_merge.specs.Conditions.{HaveTables};
 use super::*;
 use cache_layout::{Layout, lay_out};
 use dep_closure::link_set;
+use dsc_base::{Break, Rule, SetFault};
 use macho_edit::LinkSpots;
 use macho_image::{Form, Image, read_image};
 use nlist_table::{Tables, read_tables};
@@ -140,6 +141,30 @@ fn exports_inside(alloc: Global, set: &Set<'_, '_>) -> Result<(), Fail>
     Ok(())
 }
 
+// Slide information above the limit of a cache is refused, from sizes alone.
+fn large_is_refused(
+    alloc: Global,
+    set: &Set<'_, '_>,
+    tables: &[Tables<'_>],
+    layout: &Layout,
+) -> Result<(), Fail>
+    requires sound { IsSoundSet (set_of set.now) }
+    requires tables { HaveTables set.now.images.now tables.now }
+    requires layout { layout.now ≡ layout_of set.now.images.now }
+    requires inside { HaveExportsInside (set_of set.now) }
+    requires fits { layout_break set.now.images.now ≡ None }
+{
+    let too_large = Break {
+        rule: Rule::LinkeditTooLarge,
+        image: 0,
+        at: 0x2000_0000,
+    };
+    match merge(alloc, set, tables, layout, 0x2000_0001) {
+        Err(SetFault::Broken(found)) if found == too_large => Ok(()),
+        _ => Err("slide information above the limit is refused")?,
+    }
+}
+
 fn merged_of(
     alloc: Global,
     set: &Set<'_, '_>,
@@ -152,6 +177,7 @@ fn merged_of(
     requires fits { layout_break set.now.images.now ≡ None }
 {
     exports_inside(alloc, set)?;
+    large_is_refused(alloc, set, tables, layout)?;
     match merge(alloc, set, tables, layout, 0x28) {
         Ok(merged) => Ok(merged),
         Err(_) => Err("the linkedit is merged")?,

@@ -8,6 +8,8 @@ mod loaded;
 mod loading;
 mod set;
 mod symbols;
+#[cfg(test)]
+mod tests;
 
 pub use loaded::LoadedSegment;
 pub use loading::load_image;

@@ -62,7 +62,7 @@ pub record Stands (s : SegmentLoad) (start floor : ℕ) (x : SectionLoad) : Type
   pub above : start ≤ x.addr
   pub behind : floor ≤ x.addr
   pub inside : x.addr + x.size ≤ s.vmaddr + s.vmsize
-  pub bytes : (nat_eq x.size 0 || (is_zero_fill x || is_in_file_bytes s x)) ≡ true
+  pub bytes : (nat_eq x.size 0 || (is_zero_fill x.flags || is_in_file_bytes s x)) ≡ true
 
 pub stands_from : (s : SegmentLoad) (start floor : ℕ) (x : SectionLoad) → section_stands s start floor x ≡ true → Stands s start floor x
 stands_from s start floor x is =
@@ -83,17 +83,17 @@ stands_true s start floor x is =
     (and_true (nat_le (x.addr + x.size) (s.vmaddr + s.vmsize)) _ (le_true (x.addr + x.size) (s.vmaddr + s.vmsize) is.inside) is.bytes))
 
 moved_bytes : (n : ℕ) (p : SegmentPlace) (at : ℕ) (s : SegmentLoad) (x : SectionLoad) → IsSeated n p → IsWholeMove p s → s.vmaddr ≤ x.addr → x.addr + x.size ≤ s.vmaddr + s.vmsize
-    → (nat_eq x.size 0 || (is_zero_fill x || is_in_file_bytes s x)) ≡ true
-    → (nat_eq x.size 0 || (is_zero_fill x || is_in_file_bytes (placed_load p at s) (placed_section p s.vmaddr x))) ≡ true
+    → (nat_eq x.size 0 || (is_zero_fill x.flags || is_in_file_bytes s x)) ≡ true
+    → (nat_eq x.size 0 || (is_zero_fill x.flags || is_in_file_bytes (placed_load p at s) (placed_section p s.vmaddr x))) ≡ true
 moved_bytes n p at s x seated whole above inside is =
-    elim (nat_eq x.size 0) as (λ b. (b || (is_zero_fill x || is_in_file_bytes s x)) ≡ true → (b || (is_zero_fill x || is_in_file_bytes (placed_load p at s) (placed_section p s.vmaddr x))) ≡ true) [
+    elim (nat_eq x.size 0) as (λ b. (b || (is_zero_fill x.flags || is_in_file_bytes s x)) ≡ true → (b || (is_zero_fill x.flags || is_in_file_bytes (placed_load p at s) (placed_section p s.vmaddr x))) ≡ true) [
       | true ↦ λ any. refl
       | false ↦ λ rest.
-          elim (is_zero_fill x) as (λ b. is_zero_fill x ≡ b → (b || is_in_file_bytes s x) ≡ true → (b || is_in_file_bytes (placed_load p at s) (placed_section p s.vmaddr x)) ≡ true) [
+          elim (is_zero_fill x.flags) as (λ b. is_zero_fill x.flags ≡ b → (b || is_in_file_bytes s x) ≡ true → (b || is_in_file_bytes (placed_load p at s) (placed_section p s.vmaddr x)) ≡ true) [
             | true ↦ λ filled any. refl
             | false ↦ λ kept in_file.
                 let to : section_address p (x.addr - s.vmaddr) ≡ p.address + (x.addr - s.vmaddr) = address_in n p s x.addr seated whole (omega arith) in
-                let offset : section_offset p x.flags (x.addr - s.vmaddr) ≡ (p.file + (x.addr - s.vmaddr)) % 2 ^ 32 = cond-false (is_zero_fill x) 0 ((p.file + (x.addr - s.vmaddr)) % 2 ^ 32) kept in
+                let offset : section_offset p x.flags (x.addr - s.vmaddr) ≡ (p.file + (x.addr - s.vmaddr)) % 2 ^ 32 = cond-false (is_zero_fill x.flags) 0 ((p.file + (x.addr - s.vmaddr)) % 2 ^ 32) kept in
                 let room : p.file + s.vmsize < 2 ^ 32 = whole.room in
                 let filled : p.filesize ≡ s.vmsize = whole.filled in
                 and_true (nat_le (section_address p (x.addr - s.vmaddr) - p.address + x.size) p.filesize) _

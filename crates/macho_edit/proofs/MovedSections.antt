@@ -6,7 +6,8 @@ use Rattle.dsc_base.proofs.NumberLaws.{number_at-put_same, number_at-put_other, 
 use Rattle.macho_image.specs.Records.{SectionLoad}
 use Rattle.macho_image.specs.Macho.{section_fields, sections_in}
 use Rattle.macho_edit.specs.declared.segment.SegmentPlace.{SegmentPlace}
-use Rattle.macho_edit.specs.Segments.{is_zero_fill, section_address, section_offset, moved_section, moved_sections}
+use Rattle.macho_image.specs.Rules.{is_zero_fill}
+use Rattle.macho_edit.specs.Segments.{section_address, section_offset, moved_section, moved_sections}
 use Rattle.macho_edit.proofs.LengthLaws.{length-moved_section}
 
 -- the bytes before a put stay

@@ -1,8 +1,8 @@
 -- Segment commands that go to another place, each with its sections.
-use Rattle.std.specs.Prelude.{ℕ, zero, suc, ◌+◌, ◌-◌, ◌/◌, ◌%◌, ◌^◌, nat_eq, Bool, ◌||◌, if◌then◌else◌, List, [], ◌++◌, take, drop, length}
+use Rattle.std.specs.Prelude.{ℕ, zero, suc, ◌+◌, ◌-◌, ◌/◌, ◌%◌, ◌^◌, if◌then◌else◌, List, [], ◌++◌, take, drop, length}
 use Rattle.dsc_base.specs.Numbers.{number_at, put_number}
 use Rattle.macho_image.specs.declared.place.Moved.{Moved}
-use Rattle.macho_image.specs.Rules.{is_linkedit_name}
+use Rattle.macho_image.specs.Rules.{is_linkedit_name, is_zero_fill}
 use Rattle.macho_edit.specs.declared.segment.SegmentPlace.{SegmentPlace}
 use Rattle.macho_edit.specs.declared.spots.LinkSpots.{LinkSpots}
 
@@ -17,10 +17,6 @@ own_place m vmsize = record { address = m.address; file = m.file; vmsize = vmsiz
 -- where a segment goes, by its name and its size in memory
 unfoldable pub place_for : LinkSpots → Moved → List ℕ → ℕ → SegmentPlace
 place_for spots m name vmsize = if is_linkedit_name name then linkedit_place spots else own_place m vmsize
-
--- S_ZEROFILL, S_GB_ZEROFILL and S_THREAD_LOCAL_ZEROFILL
-abbrev pub is_zero_fill : ℕ → Bool
-is_zero_fill flags = nat_eq (flags % 256) 1 || (nat_eq (flags % 256) 0xC || nat_eq (flags % 256) 0x12)
 
 -- the address at a distance from the segment's, in 64 bits
 abbrev pub section_address : SegmentPlace → ℕ → ℕ

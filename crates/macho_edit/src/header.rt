@@ -1,11 +1,11 @@
 // The header of an image that goes to the shared cache or to a file of its own. Names are those of mach-o/loader.h.
-ghost use Rattle.std.specs.Prelude.{◌≡◌, ◌≤◌, ◌<◌, ◌+◌, ◌-◌, ◌^◌, ◌++◌, None, true, length, All, OnOk, IfOk};
+ghost use Rattle.std.specs.Prelude.{◌≡◌, ◌≤◌, ◌<◌, ◌+◌, ◌-◌, ◌^◌, ◌++◌, None, true, not, length, All, OnOk, IfOk};
 ghost use Rattle.std.specs.List.{concat};
 ghost use Rattle.dsc_base.specs.Numbers.{number_at};
 ghost use Rattle.dsc_base.specs.Region.{padded};
-ghost use Rattle.macho_image.specs.Macho.{header_size, number_of, is_segment};
-ghost use Rattle.macho_image.specs.Rules.{breaks_command_shape, least_size};
-ghost use Rattle.macho_edit.specs.Cached.{is_kept, moved_command, moves_behind, kept_commands, flags_in, formed_front, formed_header, unrebased, cached_bytes, standalone_bytes};
+ghost use Rattle.macho_image.specs.Macho.{header_size};
+ghost use Rattle.macho_image.specs.Rules.{breaks_command_shape};
+ghost use Rattle.macho_edit.specs.Cached.{is_dropped, moved_command, moves_behind, kept_commands, flags_in, formed_front, formed_header, unrebased, cached_bytes, standalone_bytes};
 ghost use Rattle.macho_edit.specs.Conditions.{AreLow, CanMove, FitFields};
 ghost use Rattle.macho_edit.specs.MovedImage.{Rereads, RereadsAlone, SpellsMoved, SpellsAlone};
 
@@ -17,16 +17,15 @@ use crate::numbers::{
 use crate::segment::append_segment;
 use crate::tables::append_spotted;
 use dsc_base::{NoMemory, Span, get_u32, put_u32};
-use macho_image::{Form, Image, Moved, Moves};
+use macho_image::{Command, Commands, Form, Image, Moved, Moves};
 use std::alloc::Global;
 
-/// Whether a command isn't left out.
-fn is_kept(command: &[u8]) -> bool
-    requires { 8 ≤ length command.now }
-    ensures { result ≡ is_kept command.now }
+/// Whether a command of that number isn't left out.
+fn is_kept(number: u32) -> bool
+    ensures { result ≡ not (is_dropped number) }
 {
     !matches!(
-        get_u32(command, 0),
+        number,
         LC_SEGMENT_SPLIT_INFO | LC_CODE_SIGNATURE | LC_DYLIB_CODE_SIGN_DRS
     )
 }
@@ -35,23 +34,21 @@ fn is_kept(command: &[u8]) -> bool
 /// command as it is. Gives the moves that are left behind it.
 fn append_command<'m>(
     out: &mut Vec<u8>,
-    command: &[u8],
+    command: &Command<'_>,
     moves: &'m [Moved],
     spots: &LinkSpots,
 ) -> Result<&'m [Moved], NoMemory>
-    requires low { AreLow spots.now }
-    requires front { 8 ≤ length command.now }
-    requires whole { least_size (number_of command.now) ≤ length command.now }
-    ensures appended { OnOk result (out.new.items ≡ out.old.items ++ moved_command spots.now moves.entry.now command.now) }
-    ensures behind { IfOk result (λ left. left.now ≡ moves_behind moves.entry.now command.now) }
+    requires { AreLow spots.now }
+    ensures appended { OnOk result (out.new.items ≡ out.old.items ++ moved_command spots.now moves.entry.now command.now.bytes) }
+    ensures behind { IfOk result (λ left. left.now ≡ moves_behind moves.entry.now command.now.bytes) }
 {
     match moves.split_first() {
-        Some((moved, behind)) if get_u32(command, 0) == LC_SEGMENT_64 => {
-            append_segment(out, command, moved, spots)?;
+        Some((moved, behind)) if command.number == LC_SEGMENT_64 => {
+            append_segment(out, command.bytes, moved, spots)?;
             Ok(behind)
         }
         _ => {
-            append_spotted(out, command, spots)?;
+            append_spotted(out, command.bytes, spots)?;
             Ok(moves)
         }
     }
@@ -72,15 +69,11 @@ fn append_commands(
 {
     let mut left = moves;
     let mut count = 0;
-    let mut at = 32;
-    for _number in 0..get_u32(header, 16) {
-        let size = get_u32(header, at + 4) as usize;
-        let command = &header[at..at + size];
-        if is_kept(command) {
-            left = append_command(out, command, left, spots)?;
+    for command in Commands::new(header) {
+        if is_kept(command.number) {
+            left = append_command(out, &command, left, spots)?;
             count += 1;
         }
-        at += size;
     }
     Ok(count)
 }

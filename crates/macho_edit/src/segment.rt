@@ -5,7 +5,7 @@ ghost use Rattle.macho_edit.specs.Segments.{place_for, section_offset, moved_sec
 
 use crate::LinkSpots;
 use dsc_base::{NoMemory, get_u32, get_u64, put_u32, put_u64};
-use macho_image::Moved;
+use macho_image::{Moved, is_zero_fill};
 
 const LINKEDIT: &[u8] = b"__LINKEDIT\0\0\0\0\0\0";
 
@@ -47,9 +47,10 @@ fn place_for(spots: &LinkSpots, moved: &Moved, command: &[u8]) -> SegmentPlace
 fn section_offset(place: &SegmentPlace, flags: u32, distance: u64) -> u32
     ensures { result ≡ section_offset place.now flags distance }
 {
-    match flags % 256 {
-        0x1 | 0xC | 0x12 => 0,
-        _ => (place.file.wrapping_add(distance) % 0x1_0000_0000) as u32,
+    if is_zero_fill(flags) {
+        0
+    } else {
+        (place.file.wrapping_add(distance) % 0x1_0000_0000) as u32
     }
 }
 

@@ -1,5 +1,5 @@
 -- Looking for an entry of a universal file, one entry at a time.
-use Rattle.std.proofs.Common.{◌≡◌, ℕ, suc, Bool, true, false, List, ◌∷◌, drop, refl, sym, ap, ap₂, ◌∙◌, cond, Option, Some, nat_eq}
+use Rattle.std.proofs.Common.{◌≡◌, ℕ, suc, false, List, ◌∷◌, drop, sym, ap, ap₂, ◌∙◌, Option, Some}
 use Rattle.std.specs.Prelude.{find}
 use Rattle.std.proofs.lemmas.Bool.{cond-false}
 use Rattle.macho_image.specs.declared.universal.Arch.{Arch}

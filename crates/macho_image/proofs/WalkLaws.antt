@@ -1,15 +1,14 @@
 -- Walking over commands that are whole, one at a time.
-use Rattle.std.proofs.Common.{◌≡◌, ◌≤◌, ◌<◌, ◌+◌, ◌-◌, ◌^◌, ℕ, zero, suc, Bool, true, false, not, ◌||◌, List, ◌∷◌, take, drop, length, refl, sym, ap, ◌∙◌, subst, arith, if◌then◌else◌, nat_eq, nat_lt, Option, Some, None, length-drop}
+use Rattle.std.proofs.Common.{◌≡◌, ◌≤◌, ◌<◌, ◌+◌, ◌^◌, ℕ, suc, Bool, true, false, not, ◌||◌, List, ◌∷◌, take, drop, length, refl, sym, ap, ◌∙◌, subst, arith, if◌then◌else◌, nat_eq, nat_lt, Option, Some, None, length-drop}
 use Rattle.std.proofs.lemmas.Bool.Decides.{nat_tests}
 use Rattle.std.proofs.lemmas.List.{length-take-le}
 use Rattle.dsc_base.specs.Numbers.{number_at}
-use Rattle.dsc_base.specs.declared.fault.Site.{Site}
 use Rattle.macho_image.specs.Records.{Img, Load}
 use Rattle.macho_image.specs.Macho.{header_size, size_of, commands_in, loads_from}
-use Rattle.macho_image.specs.Rules.{begins_whole, misshapen, breaks_command_shape, breaks_not_mach_o}
+use Rattle.macho_image.specs.Rules.{begins_whole, misshapen, breaks_command_shape}
 use Rattle.macho_image.specs.Breaks.{kind_break, form_of, header_break, IsSound}
 use Rattle.macho_image.specs.Walk.{AreWhole}
-use Rattle.macho_image.proofs.Splitting.{IsWholeFront, begins_whole-front}
+use Rattle.macho_image.proofs.Splitting.{begins_whole-front}
 use Rattle.macho_image.proofs.Unbroken.{or_none, kind_unbroken, IsWholeHeader}
 
 -- of whole commands the first begins the rest, and those behind it are whole

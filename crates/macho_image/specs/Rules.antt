@@ -2,6 +2,7 @@
 use Rattle.std.specs.Prelude.{ℕ, zero, suc, ◌+◌, ◌-◌, ◌*◌, ◌/◌, ◌%◌, min, max, Bool, true, false, not, ◌&&◌, ◌||◌, List, [], ◌∷◌, ◌++◌, drop, length, filter, find, Option, Some, None, option_map, codes, if◌then◌else◌, nat_eq, nat_lt, nat_le, slice_get}
 use Rattle.std.specs.List.{list_any, list_all, slice_split}
 use Rattle.dsc_base.specs.Numbers.{number_at}
+use Rattle.dsc_base.specs.Texts.{is_plain_text}
 use lib.Pointwise.{pointwise}
 use Rattle.macho_image.specs.declared.form.Form.{Form}
 use Rattle.macho_image.specs.declared.form.Form.TheVariants.{Standalone, Cached}
@@ -169,8 +170,8 @@ breaks_segment_prot ss =
 abbrev pub section_type : SectionLoad → ℕ
 section_type x = x.flags % 256
 
-abbrev pub is_zero_fill : SectionLoad → Bool
-is_zero_fill x = nat_eq (section_type x) 1 || (nat_eq (section_type x) 0xC || nat_eq (section_type x) 0x12)
+abbrev pub is_zero_fill : ℕ → Bool
+is_zero_fill flags = nat_eq (flags % 256) 1 || (nat_eq (flags % 256) 0xC || nat_eq (flags % 256) 0x12)
 
 abbrev pub is_in_file_bytes : SegmentLoad → SectionLoad → Bool
 is_in_file_bytes s x =
@@ -180,7 +181,7 @@ is_in_file_bytes s x =
 abbrev pub section_stands : SegmentLoad → ℕ → ℕ → SectionLoad → Bool
 section_stands s start floor x =
     nat_le start x.addr && (nat_le floor x.addr && (nat_le (x.addr + x.size) (s.vmaddr + s.vmsize)
-    && (nat_eq x.size 0 || (is_zero_fill x || is_in_file_bytes s x))))
+    && (nat_eq x.size 0 || (is_zero_fill x.flags || is_in_file_bytes s x))))
 
 abbrev pub sections_stand : SegmentLoad → ℕ → ℕ → List SectionLoad → Bool
 sections_stand s start floor [] = true
@@ -214,13 +215,9 @@ breaks_has_relocations ss ls =
     (first_load names_relocations ls)
 
 -- Rule 15: a dylib name that isn't plain text of 1 to 1,024 bytes from 0x20 to 0x7E, ended by a NUL in its command.
-abbrev pub is_printable : ℕ → Bool
-is_printable x = nat_le 0x20 x && nat_le x 0x7E
-
 abbrev pub is_plain_name : List ℕ → Bool
 is_plain_name c =
-    nat_le 24 (number_at 4 c dylib_name_offset) && (nat_lt (number_at 4 c dylib_name_offset + length (dylib_name c)) (length c)
-    && (nat_le 1 (length (dylib_name c)) && (nat_le (length (dylib_name c)) 1024 && list_all is_printable (dylib_name c))))
+    nat_le 24 (number_at 4 c dylib_name_offset) && (nat_lt (number_at 4 c dylib_name_offset + length (dylib_name c)) (length c) && is_plain_text (dylib_name c))
 
 abbrev pub breaks_name_text : List Load → Option ℕ
 breaks_name_text ls = first_load (λ l. is_dylib (number_of l.bytes) && not (is_plain_name l.bytes)) ls

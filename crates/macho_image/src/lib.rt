@@ -36,6 +36,7 @@ pub use places::{
     Inside, PlaceFault, SegmentIndex, first_close, half_at_address, header_address, locate,
     number_at_address, section_around, text_number, value_at,
 };
+pub use protection::is_zero_fill;
 pub use read::read_image;
 pub use section::Section;
 pub use universal::pick_slice;

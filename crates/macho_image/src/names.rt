@@ -11,9 +11,7 @@ use crate::command::Command;
 use crate::format::DYLIB_NAME_OFFSET;
 use crate::header::refuse;
 use crate::numbers::{LC_ID_DYLIB, is_dylib};
-use dsc_base::{Fault, Rule};
-
-const LONGEST_NAME: usize = 1024;
+use dsc_base::{Fault, Rule, is_plain_text};
 
 fn nul_at(bytes: &[u8]) -> Option<usize>
     ensures { result ≡ position (λ x. nat_eq x 0) bytes.now }
@@ -41,12 +39,6 @@ pub(crate) fn dylib_name<'a>(bytes: &'a [u8]) -> &'a [u8]
     before_nul(behind(bytes, u64::from(offset)))
 }
 
-fn is_printable(text: &[u8]) -> bool
-    ensures { result ≡ list_all rules.is_printable text.now }
-{
-    text.iter().all(|x| matches!(x, 0x20..=0x7E))
-}
-
 fn is_plain_name(bytes: &[u8]) -> bool
     requires { 24 ≤ length bytes.now }
     ensures { result ≡ rules.is_plain_name bytes.now }
@@ -55,9 +47,7 @@ fn is_plain_name(bytes: &[u8]) -> bool
     let name = dylib_name(bytes);
     offset >= 24
         && u64::from(offset) + (name.len() as u64) < bytes.len() as u64
-        && !name.is_empty()
-        && name.len() <= LONGEST_NAME
-        && is_printable(name)
+        && is_plain_text(name)
 }
 
 fn has_bad_name(command: &Command<'_>) -> bool

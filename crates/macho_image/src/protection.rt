@@ -40,11 +40,13 @@ fn section_type(section: &SectionFields) -> u32
     section.flags & 0xFF
 }
 
-fn is_zero_fill(section: &SectionFields) -> bool
-    ensures { result ≡ rules.is_zero_fill section.now }
+/// Whether the flags of a section say that its bytes are zeros which aren't in the file: `S_ZEROFILL`, `S_GB_ZEROFILL` and
+/// `S_THREAD_LOCAL_ZEROFILL` of `mach-o/loader.h`.
+pub fn is_zero_fill(flags: u32) -> bool
+    ensures { result ≡ rules.is_zero_fill flags }
 {
     matches!(
-        section_type(section),
+        flags & 0xFF,
         S_ZEROFILL | S_GB_ZEROFILL | S_THREAD_LOCAL_ZEROFILL
     )
 }
@@ -119,7 +121,7 @@ fn section_stands(
     start <= addr
         && floor <= addr
         && end <= u128::from(segment.vmaddr) + u128::from(segment.vmsize)
-        && (section.size == 0 || is_zero_fill(section) || is_in_file_bytes(segment, section))
+        && (section.size == 0 || is_zero_fill(section.flags) || is_in_file_bytes(segment, section))
 }
 
 // The sections of a segment, each at or above the end of the one before it.

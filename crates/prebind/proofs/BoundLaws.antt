@@ -1,4 +1,4 @@
--- Bound words placed by an index, one bind more at a time; and the words of the whole image.
+-- The images that are asked for the names of an image's binds, and its placed words as a whole.
 use Rattle.std.proofs.Common.{◌≡◌, ◌<◌, ◌+◌, ℕ, suc, List, ◌∷◌, [], ◌++◌, take, drop, length, map, get_or, sym, ap, ap₂, refl, subst, ◌∙◌, arith}
 use Rattle.std.specs.Prelude.{option_map}
 use Rattle.std.proofs.Math.Seq.{drop-cons}
@@ -28,14 +28,6 @@ probes_here set k i binds b lt is =
     ap (λ (l : List BoundWord). bind_probes set k l) (drop-cons binds i b lt)
     ∙ (ap (λ (c : BoundWord). bind_probes set k (c ∷ drop (suc i) binds)) (sym is)
     ∙ (sum_by-cons asked b (drop (suc i) binds) ∙ ap (λ (n : ℕ). probes set k b.ordinal b.name + bind_probes set k (drop n binds)) next))
-
--- the words of one bind more
-pub placed_more : (set : ImageSet) (k i : ℕ) (binds : List BoundWord) (b : BoundWord) (words words' : List PlacedWord) (word : PlacedWord) → i < length binds → b ≡ get_or binds i b → words ≡ map (placed_bind set k) (take i binds) → word ≡ placed_bind set k b → words' ≡ words ++ word ∷ []
-    → words' ≡ map (placed_bind set k) (take (i + 1) binds)
-placed_more set k i binds b words words' word lt at before is grown =
-    grown
-    ∙ (ap₂ (λ (l : List PlacedWord) (w : PlacedWord). l ++ w ∷ []) before (is ∙ ap (placed_bind set k) at)
-    ∙ (sym (map_push (placed_bind set k) (take i binds) (get_or binds i b)) ∙ sym (ap (λ (bs : List BoundWord). map (placed_bind set k) bs) (take_more binds i b lt))))
 
 -- words in order are placed
 pub placed_all : (set : ImageSet) (k : ℕ) (words : List PlacedWord) → IsSoundSet set → k < length set.images → AreOrdered (pointers_of set k) words → ArePlaced (pointers_of set k) words

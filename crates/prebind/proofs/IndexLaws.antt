@@ -24,6 +24,10 @@ use Rattle.prebind.proofs.FrameLaws.{framed_is}
 pub many_frames : (set : ImageSet) (links : Linked) (indexed : IndexOf) → AreOf set links indexed → length indexed.frames ≡ length set.images
 many_frames set links indexed are = ap (λ (fs : List FrameOf). length fs) are.index.frames ∙ length-map set.images frame_of
 
+-- sets of one index have as many images
+pub within_each : (set other : ImageSet) (links : Linked) (indexed : IndexOf) (k : ℕ) → AreOf set links indexed → AreOf other links indexed → k < length other.images → k < length set.images
+within_each set other links indexed k are others lt = omega (arith, many_frames set links indexed are, many_frames other links indexed others, lt)
+
 pub many_names : (set : ImageSet) (links : Linked) (indexed : IndexOf) → AreOf set links indexed → length indexed.names ≡ length set.images
 many_names set links indexed are =
     ap (λ (ess : List (List Export)). length ess) are.index.names
@@ -63,16 +67,6 @@ found_by set links indexed name j are =
 
 pub searched_by : (set : ImageSet) (links : Linked) (indexed : IndexOf) (name : List ℕ) (j : ℕ) → AreOf set links indexed → searched indexed.names name (get_or links.orders j []) ≡ dependency_probes set name (deps.Image j)
 searched_by set links indexed name j are = λ i. searched (are.index.names i) name (get_or (are.linked i).orders j [])
-
--- the frames of one image more
-pub frames_more : (images : List Img) (n : ℕ) (image : Img) (frames frames' : List FrameOf) (frame : FrameOf) → n < length images → image ≡ get_or images n image → frames ≡ map frame_of (take n images) → frame ≡ frame_of image → frames' ≡ frames ++ frame ∷ [] → frames' ≡ map frame_of (take (n + 1) images)
-frames_more images n image frames frames' frame lt at before is grown =
-    grown
-    ∙ (ap₂ (λ (fs : List FrameOf) (f : FrameOf). fs ++ f ∷ []) before (is ∙ ap frame_of at)
-    ∙ (sym (map_push frame_of (take n images) (get_or images n image)) ∙ sym (ap (λ (is : List Img). map frame_of is) (take_more images n image lt))))
-
-pub read_more : (images : List Img) (n : ℕ) (image : Img) → n < length images → image ≡ get_or images n image → All WasRead (take n images) → WasRead image → All WasRead (take (n + 1) images)
-read_more images n image lt at before read = All-more WasRead images n image lt before (subst WasRead at read)
 
 -- the step that goes through a search order, and the images that it asks
 pub found_image : (set : ImageSet) (links : Linked) (indexed : IndexOf) (image ordinal first : ℕ) (name order : List ℕ) (frames : List FrameOf) (names : List (List Export)) (found : Option (ℕ × Target)) (s : Step) → AreOf set links indexed

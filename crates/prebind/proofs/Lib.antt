@@ -1,11 +1,12 @@
+pub mod AskedLaws
 pub mod BodyLaws
 pub mod BoundLaws
 pub mod DistinctLaws
 pub mod FrameLaws
 pub mod ImageLaws
 pub mod IndexLaws
-pub mod InsideLaws
 pub mod LinkeditLaws
+pub mod ListLaws
 pub mod MetLaws
 pub mod NumberLaws
 pub mod OrderLaws
@@ -17,6 +18,5 @@ pub mod ResolveLaws
 pub mod SameLaws
 pub mod SetLaws
 pub mod SoundLaws
-pub mod SpanLaws
 pub mod StepLaws
 pub mod WordLaws

@@ -94,3 +94,10 @@ probing_next set met longer image ordinal k by name own sought outcome taken tot
     let next = probing_on set met image ordinal k by name own outcome taken total now kept (sym is) now_is (was_fresh f (is_met met (k, name)) told fresh) (reexport_within set image ordinal k by name own many (sym is)) in
     subst (λ (m : List Pair). IsNextProbe set met m k by sought outcome now total) (sym added)
     (subst (λ (n : List ℕ). IsNextProbe set met (met ++ (k, name) ∷ []) k by n outcome now total) (sym named) next)
+
+-- a resolution of one step
+pub probes_end : (set : ImageSet) (image ordinal : ℕ) (name : List ℕ) (end : Resolved) → Ends end ≡ step set image ordinal name → probes set image ordinal name ≡ step_probes set image ordinal name
+unfolding resolves probes
+probes_end set image ordinal name end is =
+    let next = stepping set [] image ordinal name (resolves set image ordinal name) 0 (0 + probes set image ordinal name) (export_count set + 1) (omega arith) refl refl in
+    omega (arith, next.counted, ap (λ (s : Step). later_probes [] name s (probes_after next.behind set)) (sym is))

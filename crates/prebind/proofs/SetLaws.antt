@@ -1,11 +1,13 @@
 -- The set that images make is sound where their streams break no rule, and neither do their links.
-use Rattle.std.proofs.Common.{◌≡◌, ◌≤◌, ℕ, Option, Some, None, List, length, refl, sym, ap, ◌∙◌, subst, inl}
+use Rattle.std.proofs.Common.{◌≡◌, ◌≤◌, ℕ, Option, Some, None, List, length, map, All, refl, sym, ap, ◌∙◌, subst, inl}
 use Rattle.std.specs.Prelude.{slice_get, option_map}
 use Rattle.std.specs.Option.{option_or}
 use Rattle.std.proofs.lemmas.List.{length-map}
-use Rattle.std.proofs.lemmas.Option.{slice_get-map}
+use Rattle.std.proofs.lemmas.List.Elements.{All-get_or}
+use Rattle.std.proofs.lemmas.Option.{slice_get-map, slice_get_within, get_or_from_slice_get}
 use Rattle.dsc_base.specs.declared.fault.Site.{Site}
 use Rattle.macho_image.specs.Records.{Img}
+use Rattle.dep_closure.specs.Linked.{Linked, links_of}
 use Rattle.dep_closure.specs.Breaks.{link_break}
 use Rattle.prebind.specs.Sets.{StreamLists, streams_break, lists_of, image_set, AreStreamsOf, IsSoundSet}
 
@@ -54,3 +56,17 @@ sound_set images few streams linked = record {
   where
     same : (s t : StreamLists) → Some s ≡ Some t → t ≡ s
     same s t e = cc
+
+pub have_streams : (images : List Img) → All (λ (i : Img). streams_break i ≡ None) images → HaveStreams images
+have_streams images all k image found =
+    subst (λ (i : Img). streams_break i ≡ None) (get_or_from_slice_get images k image image found)
+    (All-get_or (λ (i : Img). streams_break i ≡ None) images k image (slice_get_within images k image found) all)
+
+-- what is read and linked of images is the set that they make
+pub set_made : (images : List Img) (streams : List StreamLists) (links : Linked) → streams ≡ map lists_of images → links ≡ links_of images → image_set images ≡ record { images = images; streams = streams; links = links }
+unfolding image_set
+set_made images streams links streams_are links_are = λ j. record { images = images; streams = sym streams_are j; links = sym links_are j }
+
+pub sound_read : (images : List Img) (streams : List StreamLists) (links : Linked) → streams ≡ map lists_of images → links ≡ links_of images → length images ≤ 4097 → HaveStreams images → link_break images ≡ None
+    → IsSoundSet (record { images = images; streams = streams; links = links })
+sound_read images streams links streams_are links_are few unbroken linked = subst IsSoundSet (set_made images streams links streams_are links_are) (sound_set images few unbroken linked)

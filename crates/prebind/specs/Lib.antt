@@ -1,4 +1,5 @@
 pub mod Agree
+pub mod Asked
 pub mod Bodies
 pub mod Framed
 pub mod Indexed

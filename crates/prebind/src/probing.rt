@@ -20,7 +20,7 @@ use std::sync::ledger::Ledger;
 
 // The first image of a search order that exports a name, and where its export leads. It takes a step for each
 // image up to that one.
-fn first_named<'a, L: Ledger>(
+pub(crate) fn first_named<'a, L: Ledger>(
     names: &'a NameIndex,
     order: &[u32],
     name: &[u8],

@@ -6,6 +6,7 @@ ghost use Rattle.prebind.specs.Steps.{set_of};
 
 mod dylibs;
 mod rows;
+mod steps;
 mod streams;
 
 use crate::{
@@ -23,6 +24,7 @@ use std::marker::Brand;
 use std::process::Abort;
 use std::sync::ledger::{Blank, Ledger};
 use std::test::Fail;
+use steps::counted_words;
 use streams::are_spelled;
 
 fn files_of(alloc: Global, dylibs: &[Dylib]) -> Result<Vec<Vec<u8>>, Fail> {
@@ -91,11 +93,13 @@ fn indexed_words<L: Ledger>(
     )
 }
 
-// Whether words are found in the files of a set or by an index of it.
+// Whether words are found in the files of a set, or by an index of it; the last one is for a set whose steps are
+// known.
 #[derive(Clone, Copy)]
 enum Way {
     Files,
     Index,
+    Counted,
 }
 
 // The words of the first image, where its exports are accepted.
@@ -112,6 +116,7 @@ fn first_words<L: Ledger>(
     match way {
         Way::Files => place_words(alloc, set, 0),
         Way::Index => indexed_words(alloc, set, steps),
+        Way::Counted => counted_words(alloc, set, steps),
     }
 }
 
@@ -199,6 +204,16 @@ fn rows_stand<L: Ledger>(
     Ok(())
 }
 
+// The first row of re-exports, each resolution of which takes as many steps as its search order tells.
+fn counted_row_stands<L: Ledger>(rt: &impl Abort, alloc: Global, blank: Blank) -> Result<(), Fail>
+    requires name { blank.name ≡ L.name }
+    requires parts { blank.parts ≡ L.parts }
+    requires one { blank.parts ≡ 1 }
+{
+    let mut steps = Steps::<L>::new(blank);
+    row_stands(rt, alloc, &REEXPORTS[0], Way::Counted, &mut steps)
+}
+
 fn all_stand(rt: &impl Abort, alloc: Global, rows: &[Row]) -> Result<(), Fail> {
     rows_stand::<Brand>(rt, alloc, rows, Blank::new(1))
 }
@@ -216,6 +231,11 @@ fn binds(rt: HostRuntime) -> Result<(), Fail> {
 #[test]
 fn reexports(rt: HostRuntime) -> Result<(), Fail> {
     all_stand(&rt, rt.alloc(), &REEXPORTS)
+}
+
+#[test]
+fn steps_of_a_search(rt: HostRuntime) -> Result<(), Fail> {
+    counted_row_stands::<Brand>(&rt, rt.alloc(), Blank::new(1))
 }
 
 #[test]

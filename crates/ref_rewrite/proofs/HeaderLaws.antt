@@ -27,6 +27,7 @@ use Rattle.cache_layout.specs.Layouts.{Laid, layout_of}
 use Rattle.split_info.specs.declared.reference.Reference.{Reference}
 use Rattle.split_info.specs.References.{width_of}
 use Rattle.split_info.specs.Split.{IsReference}
+use Rattle.split_info.proofs.SoundSections.{section_shape}
 use Rattle.prebind.specs.declared.resolved.PlacedWord.{PlacedWord}
 use Rattle.prebind.specs.Sets.{StreamLists, ImageSet, IsSplitRead}
 use Rattle.prebind.specs.Words.{Word, pointer_word, reference_word, is_no_pointer, streams_in, streams_at}
@@ -35,25 +36,6 @@ use Rattle.ref_rewrite.specs.Planned.{words_with, plan_of}
 use Rattle.ref_rewrite.proofs.FitLaws.{IsAt, IsPlanned, headed, segment_there, offset_is, references_are}
 use Rattle.ref_rewrite.proofs.HomeLaws.{good_first, not_false, one_of_two, section_owned, two_segments, header_fits, bytes_fit}
 use Rattle.ref_rewrite.proofs.PlacedLaws.{placed_words}
-
--- what rule 12 gives of an image's sections
-section_shape : (image : Img) → IsSound image → breaks_section_shape (header_size image.header) (segment_loads (loads_of image.header)) ≡ None
-unfolding header_break section_break
-section_shape image sound =
-    let ls = loads_of image.header in
-    let ss = segment_loads ls in
-    let size = header_size image.header in
-    let prot : Option Site = broken SegmentProt (breaks_segment_prot ss) in
-    let shape : Option Site = broken SectionShape (breaks_section_shape size ss) in
-    let after : List (Option Site) = broken Interposing (breaks_interposing ss) ∷ broken HasRelocations (breaks_has_relocations ss ls) ∷ [] in
-    let one = or_none (kind_break (form_of image.header) image.header)
-    (first_break (command_break ls ∷ broken SegmentShape (breaks_segment_shape size ss) ∷ section_break size ss ls ∷ name_break ls ∷ [])) sound.unbroken in
-    let two = or_none (command_break ls) (first_break (broken SegmentShape (breaks_segment_shape size ss) ∷ section_break size ss ls ∷ name_break ls ∷ [])) one.1 in
-    let three = or_none (broken SegmentShape (breaks_segment_shape size ss)) (first_break (section_break size ss ls ∷ name_break ls ∷ [])) two.1 in
-    let four = or_none (section_break size ss ls) (first_break (name_break ls ∷ [])) three.1 in
-    let five = or_none prot (first_break (shape ∷ after)) four.0 in
-    let six = or_none shape (first_break after) five.1 in
-    broken_none SectionShape (breaks_section_shape size ss) six.0
 
 -- a section of a command begins no earlier than its sections may
 stand_above : (size k floor j : ℕ) (l : SegmentLoad) (u : Section) (xs : List SectionLoad) → sections_stand l (sections_start size l) floor xs ≡ true → slice_get (map (section_of k) xs) j ≡ Some u → (sections_start size l ≤ u.addr) × (u.segment ≡ k)

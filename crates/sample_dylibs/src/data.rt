@@ -1,36 +1,16 @@
 // A dylib with a text and a data segment of one section each, one rebase, and no references.
 ghost use Rattle.std.specs.Prelude.{◌≡◌, length, IfOk};
 
-use crate::bytes_with;
+use crate::plain::TEXT;
+use crate::{bytes_with, put_numbers};
 use std::alloc::{AllocError, Global};
 
 // `/a.dylib`: `__text` is 0x400 to 0xC00, `__data` is 0x1000 to 0x2000, and the linkedit is 0x40 bytes at 0x2000.
-const NUMBERS: [(usize, u32); 70] = [
+const NUMBERS: [(usize, u32); 50] = [
     // mach_header_64
-    (0x0, 0xfeedfacf),
-    (0x4, 0x1000007),
-    (0x8, 0x3),
-    (0xc, 0x6),
     (0x10, 0x6),
     (0x14, 0x1e0),
     (0x18, 0x80),
-    // LC_SEGMENT_64 of __TEXT, and its __text
-    (0x20, 0x19),
-    (0x24, 0x98),
-    (0x28, 0x45545f5f),
-    (0x2c, 0x5458),
-    (0x40, 0x1000),
-    (0x50, 0x1000),
-    (0x58, 0x5),
-    (0x5c, 0x5),
-    (0x60, 0x1),
-    (0x68, 0x65745f5f),
-    (0x6c, 0x7478),
-    (0x78, 0x45545f5f),
-    (0x7c, 0x5458),
-    (0x88, 0x400),
-    (0x90, 0x800),
-    (0x98, 0x400),
     // LC_SEGMENT_64 of __DATA, and its __data
     (0xb8, 0x19),
     (0xbc, 0x98),
@@ -103,5 +83,7 @@ pub const SHORT: [(usize, u32); 1] = [(0x128, 0x800)];
 pub fn data_dylib(alloc: Global, len: usize) -> Result<Vec<u8>, AllocError>
     ensures { IfOk result (λ v. length v.items ≡ len) }
 {
-    bytes_with(alloc, len, &NUMBERS)
+    let mut bytes = bytes_with(alloc, len, &TEXT)?;
+    put_numbers(&mut bytes, &NUMBERS);
+    Ok(bytes)
 }

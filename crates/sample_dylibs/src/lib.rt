@@ -5,15 +5,19 @@
 ghost use Rattle.std.specs.Prelude.{◌≡◌, length, IfOk};
 
 mod data;
+mod plain;
 mod symbols;
 mod system;
 mod usual;
+mod zeros;
 
 pub use data::{SHORT, WIDE, data_dylib};
+pub use plain::plain_dylib;
 use std::alloc::{AllocError, Global};
 pub use symbols::symbols_dylib;
 pub use system::system_dylib;
 pub use usual::usual_dylib;
+pub use zeros::zeros_dylib;
 
 /// Sets numbers of four bytes, with the low byte first, each at its place. One that doesn't lie inside is left
 /// out.

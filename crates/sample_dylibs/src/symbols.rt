@@ -1,56 +1,20 @@
-// A dylib with a text segment of one section, and commands for symbol tables that are empty.
+// The plain dylib with commands for symbol tables that are empty.
 ghost use Rattle.std.specs.Prelude.{◌≡◌, length, IfOk};
 
-use crate::bytes_with;
+use crate::{plain_dylib, put_numbers};
 use std::alloc::{AllocError, Global};
 
-// `/s.dylib`: `__text` is 0x400 to 0xC00, and the linkedit is 0x9000 bytes at 0x1000, where symbols begin.
-const NUMBERS: [(usize, u32); 46] = [
+// `/s.dylib`: the linkedit is 0x9000 bytes at 0x1000, where symbols begin. The rest is the plain dylib's.
+const NUMBERS: [(usize, u32); 11] = [
     // mach_header_64
-    (0x0, 0xfeedfacf),
-    (0x4, 0x1000007),
-    (0x8, 0x3),
-    (0xc, 0x6),
     (0x10, 0x5),
     (0x14, 0x170),
     (0x18, 0x80),
-    // LC_SEGMENT_64 of __TEXT, and its __text
-    (0x20, 0x19),
-    (0x24, 0x98),
-    (0x28, 0x45545f5f),
-    (0x2c, 0x5458),
-    (0x40, 0x1000),
-    (0x50, 0x1000),
-    (0x58, 0x5),
-    (0x5c, 0x5),
-    (0x60, 0x1),
-    (0x68, 0x65745f5f),
-    (0x6c, 0x7478),
-    (0x78, 0x45545f5f),
-    (0x7c, 0x5458),
-    (0x88, 0x400),
-    (0x90, 0x800),
-    (0x98, 0x400),
     // LC_SEGMENT_64 of __LINKEDIT
-    (0xb8, 0x19),
-    (0xbc, 0x48),
-    (0xc0, 0x494c5f5f),
-    (0xc4, 0x44454b4e),
-    (0xc8, 0x5449),
-    (0xd0, 0x1000),
     (0xd8, 0x9000),
-    (0xe0, 0x1000),
     (0xe8, 0x9000),
-    (0xf0, 0x1),
-    (0xf4, 0x1),
     // LC_ID_DYLIB
-    (0x100, 0xd),
-    (0x104, 0x28),
-    (0x108, 0x18),
-    (0x110, 0x10000),
-    (0x114, 0x10000),
     (0x118, 0x642e732f),
-    (0x11c, 0x62696c79),
     // LC_SYMTAB
     (0x128, 0x2),
     (0x12c, 0x18),
@@ -64,5 +28,7 @@ const NUMBERS: [(usize, u32); 46] = [
 pub fn symbols_dylib(alloc: Global, len: usize) -> Result<Vec<u8>, AllocError>
     ensures { IfOk result (λ v. length v.items ≡ len) }
 {
-    bytes_with(alloc, len, &NUMBERS)
+    let mut bytes = plain_dylib(alloc, len)?;
+    put_numbers(&mut bytes, &NUMBERS);
+    Ok(bytes)
 }

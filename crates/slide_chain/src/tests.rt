@@ -122,10 +122,10 @@ const FULL: [(u64, u32, u64, bool); 4] = [
     (0, 1, 0, false),
 ];
 
-fn put_words(data: &mut [u8], words: &[(usize, u64)]) {
+fn put_words(bytes: &mut [u8], words: &[(usize, u64)]) {
     for (at, word) in words {
-        if *at < data.len() && data.len() - *at >= 8 {
-            put_u64(data, *at, *word);
+        if *at < bytes.len() && bytes.len() - *at >= 8 {
+            put_u64(bytes, *at, *word);
         }
     }
 }
@@ -208,21 +208,21 @@ fn is_shared<T: Send + Sync>(_value: &T) {}
 // Links the words, if their numbers have no bit of the mask.
 fn link_with<R: Threads + Sync>(
     rt: &R,
-    data: &mut [u8],
+    bytes: &mut [u8],
     places: &[u64],
     info: &SlideInfo,
     jobs: u32,
 ) -> bool
-    requires room { length data.old ≤ 0x20000000 }
-    requires made { IsMade info.now (length data.old) places.now }
-    requires pages { length data.old % 4096 ≡ 0 }
+    requires room { length bytes.old ≤ 0x20000000 }
+    requires made { IsMade info.now (length bytes.old) places.now }
+    requires pages { length bytes.old % 4096 ≡ 0 }
     requires words { AreWords 0 places.now }
-    requires inside { AllBelow (length data.old) places.now }
+    requires inside { AllBelow (length bytes.old) places.now }
 {
-    if jobs < 1 || jobs > 64 || !are_outside(data, places, info.mask) {
+    if jobs < 1 || jobs > 64 || !are_outside(bytes, places, info.mask) {
         return false;
     }
-    write_chains(rt, data, places, info, jobs);
+    write_chains(rt, bytes, places, info, jobs);
     true
 }
 

@@ -80,7 +80,7 @@ all_inside size k (l ∷ ls) none = elim (cases_Bool (sections_stand l (sections
     some_none k e = cc
 
 -- what rule 12 gives of an image's sections
-section_shape : (image : Img) → IsSound image → breaks_section_shape (header_size image.header) (segment_loads (loads_of image.header)) ≡ None
+pub section_shape : (image : Img) → IsSound image → breaks_section_shape (header_size image.header) (segment_loads (loads_of image.header)) ≡ None
 unfolding header_break section_break
 section_shape image sound =
     let ls = loads_of image.header in

@@ -54,7 +54,7 @@ fn each_input_is_asked_for_once_in_order(rt: HostRuntime) -> Result<(), Fail> {
             inner,
             notes: String::new(alloc),
         };
-        let answer = run_line(&rt, alloc, line, &mut store, 99, 99)?;
+        let answer = run_line(&rt, alloc, line, &mut store, 99, 150)?;
         assert_eq!(rt; answer.status, status, "{line}");
         assert_eq!(rt; store.notes.as_str(), notes, "{line}");
     }

@@ -6,7 +6,7 @@ use dsc_base::{MemStore, SoundStore};
 use std::test::Fail;
 
 const USAGE: &str =
-    "usage: dsc build [--jobs N] OUT IN...\n       dsc list CACHE\n       dsc info CACHE\n";
+    "usage: dsc build [--jobs N] OUT IN...\n       dsc list CACHE\n       dsc info CACHE\n       dsc trial [--jobs N] SEED COUNT\n";
 
 #[test]
 fn words_that_are_no_command_are_told(rt: HostRuntime) -> Result<(), Fail> {
@@ -37,9 +37,19 @@ fn words_that_are_no_command_are_told(rt: HostRuntime) -> Result<(), Fail> {
         "list c d",
         "list --jobs 1 c",
         "info -c",
+        "trial 5",
+        "trial 5 1 1",
+        "trial 5 0",
+        "trial 5 4097",
+        "trial 5 00001",
+        "trial 5 +1",
+        "trial -5 1",
+        "trial 18446744073709551616 1",
+        "trial 000000000000000000005 1",
+        "trial --jobs 65 5 1",
     ] {
         let mut store = SoundStore::new(alloc);
-        let answer = run_line(&rt, alloc, line, &mut store, 99, 99)?;
+        let answer = run_line(&rt, alloc, line, &mut store, 99, 150)?;
         assert_eq!(rt; answer.status, Status::BadWords, "{line}");
         assert_eq!(rt; answer.err.bytes(), USAGE.as_bytes(), "{line}");
         assert_eq!(rt; answer.out.bytes(), b"".as_slice(), "{line}");
@@ -87,7 +97,7 @@ fn up_to_4096_inputs_are_taken(rt: HostRuntime) -> Result<(), Fail> {
     let answer = run_line(&rt, alloc, line.as_str(), &mut store, 99, 99)?;
     assert_eq!(rt; answer.status, Status::ReadFault);
     line.push_str(" A")?;
-    let answer = run_line(&rt, alloc, line.as_str(), &mut store, 99, 99)?;
+    let answer = run_line(&rt, alloc, line.as_str(), &mut store, 99, 150)?;
     assert_eq!(rt; answer.status, Status::BadWords);
     Ok(())
 }
@@ -105,7 +115,7 @@ fn names_are_taken_as_they_are(rt: HostRuntime) -> Result<(), Fail> {
     let empty = run_words(&rt, alloc, &["build", "--", "-c", ""], &mut store, 99, 99)?;
     assert_eq!(rt; empty.status, Status::Done);
     assert_eq!(rt; store.file("-c").is_some(), true);
-    let none = run_words(&rt, alloc, &["build", "", ""], &mut store, 99, 99)?;
+    let none = run_words(&rt, alloc, &["build", "", ""], &mut store, 99, 150)?;
     assert_eq!(rt; none.status, Status::BadWords);
     Ok(())
 }

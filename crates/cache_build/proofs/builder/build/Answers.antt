@@ -2,7 +2,7 @@ use Rattle.std.proofs.Common.{◌∙◌}
 use Rattle.load_model.specs.Phases.{contents}
 use Rattle.cache_build.specs.Breaks.{set_break}
 use Rattle.cache_build.proofs.BuildLaws.{handed_set}
-use Rattle.cache_build.proofs.BuiltFiles.{files_correspond, files_span}
+use Rattle.cache_build.proofs.BuiltFiles.{files_correspond, files_sound, files_span}
 use Rattle.cache_build.proofs.builder.build.Goals as goal
 
 pub returns-in_err-layout-clause-cause : goal.returns-in_err-layout-clause-cause
@@ -29,3 +29,12 @@ returns-in_err-cache-clause-span g c = files_span c.args.options.now.delta_bits 
 
 pub returns-clause-span : goal.returns-clause-span
 returns-clause-span g c = files_span c.args.options.now.delta_bits c.args.files.now c.requires.bits c.requires.few c.files_are_bytes.ensures
+
+pub returns-in_err-layout-clause-sound : goal.returns-in_err-layout-clause-sound
+returns-in_err-layout-clause-sound g c = files_sound c.args.options.now.delta_bits c.args.files.now c.requires.bits c.requires.few c.files_are_bytes.ensures
+
+pub returns-in_err-cache-clause-sound : goal.returns-in_err-cache-clause-sound
+returns-in_err-cache-clause-sound g c = files_sound c.args.options.now.delta_bits c.args.files.now c.requires.bits c.requires.few c.files_are_bytes.ensures
+
+pub returns-clause-sound : goal.returns-clause-sound
+returns-clause-sound g c = files_sound c.args.options.now.delta_bits c.args.files.now c.requires.bits c.requires.few c.files_are_bytes.ensures

@@ -16,7 +16,7 @@ use Rattle.cache_build.specs.Cache.{headers_of}
 use Rattle.cache_build.specs.Filling.{segments_of, filled, CanFill, CanMoveEach}
 use Rattle.cache_build.proofs.GatherFills.{ArePlans, can_fill, written_back}
 use Rattle.cache_build.proofs.GatherLaws.{words_rise, words_below, words_chained, data_pages, data_room, segments_low, refused_by, first_refused, second_refused, third_refused, none_refused, merge_same}
-use Rattle.cache_build.proofs.GatherRooms.{IsFramed, many_plans, many_spots, many_moves, length_linkedit, linkedit_low, span_low, data_within, have_rooms, can_tell}
+use Rattle.cache_build.proofs.GatherRooms.{is_framed, many_plans, many_spots, many_moves, linkedit_low, span_low, data_within, have_rooms, can_tell}
 use Rattle.cache_build.proofs.GatheredSets.{AreTaken, gathered}
 use Rattle.cache_build.proofs.WholeCaches.{IsGathered, cache_is}
 use Rattle.cache_build.proofs.gathering.gather.Goals as goal
@@ -117,9 +117,7 @@ cache_head-requires-clause-within c =
     let shares = shares_of images c.args.tables.now l.moves in
     let linkedit = c.in_ok-linkedit.linkedit.items in
     let long : c.len.result ≡ length c.in_ok-linkedit.linkedit.items = search rules in
-    let size = long ∙ (ap (λ (b : List ℕ). length b) c.in_ok-linkedit.ensures.bytes ∙ length_linkedit shares) in
-    let framed : IsFramed l images slide shares linkedit c.of_sizes-frame.result =
-    record { layout = c.requires.prepared.layout; bytes = c.in_ok-linkedit.ensures.bytes; fits = c.in_ok-linkedit.ensures.cause; framed = c.of_sizes-frame.ensures shares size } in
+    let framed = is_framed l images slide shares linkedit c.of_sizes-frame.result c.len.result c.requires.prepared.layout c.in_ok-linkedit.ensures.bytes c.in_ok-linkedit.ensures.cause long c.of_sizes-frame.ensures in
     data_within l images slide shares linkedit c.of_sizes-frame.result framed
 
 pub cache_head-requires-clause-small : goal.cache_head-requires-clause-small
@@ -130,9 +128,7 @@ cache_head-requires-clause-small c =
     let shares = shares_of images c.args.tables.now l.moves in
     let linkedit = c.in_ok-linkedit.linkedit.items in
     let long : c.len.result ≡ length c.in_ok-linkedit.linkedit.items = search rules in
-    let size = long ∙ (ap (λ (b : List ℕ). length b) c.in_ok-linkedit.ensures.bytes ∙ length_linkedit shares) in
-    let framed : IsFramed l images slide shares linkedit c.of_sizes-frame.result =
-    record { layout = c.requires.prepared.layout; bytes = c.in_ok-linkedit.ensures.bytes; fits = c.in_ok-linkedit.ensures.cause; framed = c.of_sizes-frame.ensures shares size } in
+    let framed = is_framed l images slide shares linkedit c.of_sizes-frame.result c.len.result c.requires.prepared.layout c.in_ok-linkedit.ensures.bytes c.in_ok-linkedit.ensures.cause long c.of_sizes-frame.ensures in
     span_low l images slide shares linkedit c.of_sizes-frame.result framed
 
 pub returns-clause-cause : goal.returns-clause-cause
@@ -170,6 +166,7 @@ returns-clause-parts c =
     let slide_long : c.len-slide_size.result ≡ length c.in_ok-info.slide_info.items = search rules in
     let long : c.len.result ≡ length c.in_ok-linkedit.linkedit.items = search rules in
     let shares = shares_of images tables l.moves in
+    let framed = is_framed l images slide shares linkedit frame c.len.result c.requires.prepared.layout c.in_ok-linkedit.ensures.bytes c.in_ok-linkedit.ensures.cause long c.of_sizes-frame.ensures in
     let taken : AreTaken bits l set tables placed plans c.deref.result.now words given c.writable.result.len info slide_info c.len-slide_size.result linkedit spots frame head = record {
       placed_all = c.requires.prepared.placed_all;
       tables_are = c.requires.prepared.tables_are;
@@ -183,7 +180,7 @@ returns-clause-parts c =
       slide_is = slide_long;
       merged = c.in_ok-linkedit.ensures.bytes;
       spotted = c.deref-3.ensures.value ∙ c.in_ok-linkedit.ensures.spots;
-      framed = c.of_sizes-frame.ensures shares (long ∙ (ap (λ (b : List ℕ). length b) c.in_ok-linkedit.ensures.bytes ∙ length_linkedit shares));
+      framed = framed.framed;
       head_is = c.in_ok-head.ensures;
       ranges = c.in_ok-plans.ensures.ranges headers c.in_ok-put_headers.ensures.sized;
     } in
@@ -196,8 +193,6 @@ returns-clause-parts c =
       words_are = c.in_ok-words.ensures ∙ ap (λ (ps : List Plan). flat_map (λ (p : Plan). p.words) ps) c.deref.ensures.value;
       made = subst (λ (n : ℕ). IsMade info n words) size (subst (λ (ws : List ℕ). IsMade info c.writable.result.len ws) c.deref-2.ensures.value c.in_ok-info.ensures.made);
     } in
-    let framed : IsFramed l images slide shares linkedit frame =
-    record { layout = c.requires.prepared.layout; bytes = c.in_ok-linkedit.ensures.bytes; fits = c.in_ok-linkedit.ensures.cause; framed = taken.framed } in
     record {
       rooms = have_rooms l images slide shares linkedit head slide_info frame framed (can_tell set tables placed l c.requires.prepared) c.in_ok-head.ensures slide_long;
       fills = subst (λ (ps : List Plan). CanFill l ps info words) (sym headed)

@@ -12,13 +12,13 @@ returns-in_err-len c =
     let none : begins_plain c.args.bytes.now ≡ false = begins_none c.args.bytes.now (sym (c.in_err-len.ensures {u = tt})) in
     ap option_copied c.from_residual.ensures ∙ sym (cond-false (begins_plain c.args.bytes.now) (Some (before_first is_nul c.args.bytes.now)) None none)
 
-pub returns-then-is_plain_path : goal.returns-then-is_plain_path
-returns-then-is_plain_path c =
+pub returns-then-is_plain_text : goal.returns-then-is_plain_text
+returns-then-is_plain_text c =
     let some = begins_some c.args.bytes.now c.in_ok-len.len (sym c.nul_at.ensures ∙ c.in_ok-len.was) in
     ap (λ (l : List ℕ). Some l) some.0
-    ∙ sym (cond-true (begins_plain c.args.bytes.now) (Some (before_first is_nul c.args.bytes.now)) None (some.1 ∙ (sym c.is_plain_path.ensures ∙ c.if-is_plain_path.true)))
+    ∙ sym (cond-true (begins_plain c.args.bytes.now) (Some (before_first is_nul c.args.bytes.now)) None (some.1 ∙ (sym c.is_plain_text.ensures ∙ c.if-is_plain_text.true)))
 
-pub returns-else-is_plain_path : goal.returns-else-is_plain_path
-returns-else-is_plain_path c =
+pub returns-else-is_plain_text : goal.returns-else-is_plain_text
+returns-else-is_plain_text c =
     let some = begins_some c.args.bytes.now c.in_ok-len.len (sym c.nul_at.ensures ∙ c.in_ok-len.was) in
-    sym (cond-false (begins_plain c.args.bytes.now) (Some (before_first is_nul c.args.bytes.now)) None (some.1 ∙ (sym c.is_plain_path.ensures ∙ c.if-is_plain_path.false)))
+    sym (cond-false (begins_plain c.args.bytes.now) (Some (before_first is_nul c.args.bytes.now)) None (some.1 ∙ (sym c.is_plain_text.ensures ∙ c.if-is_plain_text.false)))

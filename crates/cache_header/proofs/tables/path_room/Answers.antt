@@ -1,6 +1,7 @@
 use Rattle.std.proofs.Common.{◌≤◌, length, ap, arith}
 use Rattle.cache_header.specs.Records.{Entry}
-use Rattle.cache_header.proofs.PathLaws.{IsPlain, plain_is, length-path_bytes}
+use Rattle.dsc_base.proofs.TextLaws.{IsPlain, plain_is}
+use Rattle.cache_header.proofs.PathLaws.{length-path_bytes}
 use Rattle.cache_header.proofs.tables.path_room.Goals as goal
 use Rattle.cache_header.proofs.tables.path_room.Goals.{After-as_slice}
 

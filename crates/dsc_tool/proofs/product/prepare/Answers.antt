@@ -1,11 +1,11 @@
--- An order is a build, or a text on the head of a cache.
+-- An order is a build, a text on the head of a cache, or a trial.
 use Rattle.std.proofs.Common.{◌≡◌, ◌∙◌, ℕ, List, Some, refl, ap, sym, map, string_bytes, Global}
 use Rattle.std.proofs.lemmas.Result.{IfErr-weaker, IfOk-weaker}
 use Rattle.dsc_tool.specs.declared.command.Command.{Command}
 use Rattle.dsc_tool.specs.Steps.{made_of}
 use Rattle.dsc_tool.specs.Texts.{list_text, info_text}
-use Rattle.dsc_tool.specs.Words.{build, list, info, command_of, order_of}
-use Rattle.dsc_tool.proofs.ProductLaws.{build_product, build_due, text_product, head_due}
+use Rattle.dsc_tool.specs.Words.{build, list, info, trial, command_of, order_of}
+use Rattle.dsc_tool.proofs.ProductLaws.{build_product, build_due, text_product, head_due, trial_product, trial_due}
 use Rattle.dsc_tool.proofs.product.prepare.Goals as goal
 
 pub returns-in-Build-clause-product : goal.returns-in-Build-clause-product
@@ -45,3 +45,15 @@ returns-in-Info-clause-stop g c =
     let spelled : command_of (map (string_bytes {Z = Global}) c.args.words.now) ≡ Some (info c.as_str-in-Info.result.now) =
     c.in_ok-options.ensures.spelled ∙ (ap (λ (x : Command). Some (order_of x)) c.in-Info.is ∙ ap (λ (n : List ℕ). Some (info n)) (sym c.as_str-in-Info.ensures)) in
     IfErr-weaker c.prepare_info.result _ _ (λ stop cause. head_due (info c.as_str-in-Info.result.now) info_text c.as_str-in-Info.result.now refl (λ bytes. refl) _ _ spelled _ _ stop cause) c.prepare_info.ensures.stop
+
+pub returns-in-Trial-clause-product : goal.returns-in-Trial-clause-product
+returns-in-Trial-clause-product g c =
+    let spelled : command_of (map (string_bytes {Z = Global}) c.args.words.now) ≡ Some (trial c.in-Trial.options c.in-Trial.seed c.in-Trial.count) =
+    c.in_ok-options.ensures.spelled ∙ ap (λ (x : Command). Some (order_of x)) c.in-Trial.is in
+    IfOk-weaker c.prepare_trial.result _ _ (λ p works. trial_product _ _ c.in-Trial.options c.in-Trial.seed c.in-Trial.count (made_of p) spelled works) c.prepare_trial.ensures.product
+
+pub returns-in-Trial-clause-stop : goal.returns-in-Trial-clause-stop
+returns-in-Trial-clause-stop g c =
+    let spelled : command_of (map (string_bytes {Z = Global}) c.args.words.now) ≡ Some (trial c.in-Trial.options c.in-Trial.seed c.in-Trial.count) =
+    c.in_ok-options.ensures.spelled ∙ ap (λ (x : Command). Some (order_of x)) c.in-Trial.is in
+    IfErr-weaker c.prepare_trial.result _ _ (λ stop cause. trial_due _ _ _ _ c.in-Trial.options c.in-Trial.seed c.in-Trial.count stop spelled cause) c.prepare_trial.ensures.stop

@@ -7,7 +7,7 @@ use Rattle.export_trie.specs.declared.export.Export.{Export}
 use Rattle.linkedit_merge.specs.declared.streams.StreamSpots.{StreamSpots}
 use Rattle.linkedit_merge.specs.Parts.{joined_behind, spans_behind}
 use Rattle.linkedit_merge.specs.Sizes.{spans_of}
-use Rattle.linkedit_merge.proofs.ImageLaws.{IsNext, exports_there, bytes_next, spots_next, tries_next}
+use Rattle.linkedit_merge.proofs.ImageLaws.{is_next, bytes_next, spots_next, tries_next}
 use Rattle.linkedit_merge.proofs.images.put_all_streams.Goals as goal
 
 pub loop-number-init : goal.loop-number-init
@@ -26,13 +26,9 @@ loop-number-preserved c =
     let images = c.args.images.now in
     let streams = c.image.inside.streams in
     let own = c.deref.result.now in
-    let h : IsNext exports images n streams own = record {
-      image = c.index-images-number.result;
-      within = c.loop-number-test.true;
-      image_is = c.index-images-number.is;
-      streams_is = ap (λ (i : Img). i.streams) c.image.view_is;
-      own_is = c.deref.ensures.value ∙ exports_there c.args.exports.now n c.index-exports-number.result (omega (arith, c.requires.one_each, c.loop-number-test.true)) c.index-exports-number.is;
-    } in
+    let h =
+    is_next c.args.exports.now images n c.index-images-number.result c.index-exports-number.result streams own c.requires.one_each c.loop-number-test.true c.index-images-number.is c.index-exports-number.is
+    (ap (λ (i : Img). i.streams) c.image.view_is) c.deref.ensures.value in
     record {
       bytes = bytes_next exports images n streams own c.args.out.now.items c.loop-number.out.items c.put_streams.new.out.items h c.loop-number.invariant.bytes c.in_ok-put_streams.ensures.bytes;
       spots =

@@ -8,7 +8,7 @@ use Rattle.linkedit_merge.specs.Parts.{end_behind, lens_of}
 use Rattle.linkedit_merge.specs.Sizes.{own_streams, own_at, all_streams}
 use Rattle.linkedit_merge.proofs.PartLaws.{end-rises}
 use Rattle.linkedit_merge.proofs.SizeLaws.{exceeds_exit}
-use Rattle.linkedit_merge.proofs.ImageLaws.{IsNext, exports_there, end_next, end_last}
+use Rattle.linkedit_merge.proofs.ImageLaws.{is_next, end_next, end_last}
 use Rattle.linkedit_merge.proofs.images.streams_size.Goals as goal
 
 pub loop-number-init : goal.loop-number-init
@@ -21,13 +21,9 @@ loop-number-preserved c =
     let images = c.args.images.now in
     let streams = c.image.inside.streams in
     let own = c.deref.result.now in
-    let h : IsNext exports images n streams own = record {
-      image = c.index-images-number.result;
-      within = c.loop-number-test.true;
-      image_is = c.index-images-number.is;
-      streams_is = ap (λ (i : Img). i.streams) c.image.view_is;
-      own_is = c.deref.ensures.value ∙ exports_there c.args.exports.now n c.index-exports-number.result (omega (arith, c.requires.one_each, c.loop-number-test.true)) c.index-exports-number.is;
-    } in
+    let h =
+    is_next c.args.exports.now images n c.index-images-number.result c.index-exports-number.result streams own c.requires.one_each c.loop-number-test.true c.index-images-number.is c.index-exports-number.is
+    (ap (λ (i : Img). i.streams) c.image.view_is) c.deref.ensures.value in
     record {
       end =
           ap (λ (k : ℕ). end_behind k (lens_of (flat_map (λ (parts : List (List ℕ)). parts) (drop (n + 1) (numbered (own_at exports) images))))) c.in_ok-end.ensures.size.0
@@ -42,13 +38,9 @@ returns-in_err-end-clause-cause c =
     let images = c.args.images.now in
     let streams = c.image.inside.streams in
     let own = c.deref.result.now in
-    let h : IsNext exports images n streams own = record {
-      image = c.index-images-number.result;
-      within = c.loop-number-test.true;
-      image_is = c.index-images-number.is;
-      streams_is = ap (λ (i : Img). i.streams) c.image.view_is;
-      own_is = c.deref.ensures.value ∙ exports_there c.args.exports.now n c.index-exports-number.result (omega (arith, c.requires.one_each, c.loop-number-test.true)) c.index-exports-number.is;
-    } in
+    let h =
+    is_next c.args.exports.now images n c.index-images-number.result c.index-exports-number.result streams own c.requires.one_each c.loop-number-test.true c.index-images-number.is c.index-exports-number.is
+    (ap (λ (i : Img). i.streams) c.image.view_is) c.deref.ensures.value in
     let next = end_behind c.loop-number.end (lens_of (own_streams streams own)) in
     let rest = lens_of (flat_map (λ (parts : List (List ℕ)). parts) (drop (n + 1) (numbered (own_at exports) images))) in
     let whole : end_behind 0 (lens_of (all_streams exports images)) ≡ end_behind next rest = sym c.loop-number.invariant.end ∙ end_next exports images n streams own c.loop-number.end h in

@@ -1,23 +1,22 @@
 -- What is measured and written are the parts of the shares.
-use Rattle.std.proofs.Common.{◌≡◌, ◌∙◌, ℕ, List, [], Vec, Global, map, length, sym, ap, ap₂, arith, Some, Option, get_or, ◌≤◌, subst}
+use Rattle.std.proofs.Common.{◌≡◌, ◌∙◌, ℕ, List, [], Vec, Global, map, refl, sym, ap, ap₂, arith, Some, Option, get_or, ◌≤◌, subst}
 use Rattle.std.specs.List.{flat_map}
-use Rattle.std.proofs.lemmas.List.{length-map}
 use Rattle.std.proofs.lemmas.Option.{slice_get_within, get_or_from_slice_get}
 use Rattle.dsc_base.specs.Region.{paged}
 use Rattle.dsc_base.specs.declared.fault.Break.{Break}
 use Rattle.export_trie.specs.declared.export.Export.{Export}
 use Rattle.nlist_table.specs.Symbols.{Tabs}
 use Rattle.cache_layout.specs.Places.{numbered}
-use Rattle.cache_layout.proofs.NumberedLaws.{numbered-get, length-numbered}
+use Rattle.cache_layout.proofs.NumberedLaws.{numbered-get}
 use Rattle.linkedit_merge.specs.Indices.{names_of, pool_len}
-use Rattle.linkedit_merge.specs.Linkedit.{linkedit_of, linkedit_size, linkedit_start, pool_of}
+use Rattle.linkedit_merge.specs.Linkedit.{linkedit_of, linkedit_start, pool_of}
 use Rattle.linkedit_merge.specs.Parts.{joined, lens_of, spans_behind}
 use Rattle.linkedit_merge.specs.Pool.{pooled_behind, symbol_names}
 use Rattle.linkedit_merge.specs.Shares.{shares_of}
 use Rattle.linkedit_merge.specs.Sizes.{moved_at, whole_size}
 use Rattle.linkedit_merge.specs.declared.streams.StreamSpots.{StreamSpots}
 use Rattle.linkedit_merge.specs.Spots.{spots_from}
-use Rattle.linkedit_merge.proofs.MergeLaws.{names_are, parts_are, size_is, breaks_where, fits_where, refused_exit, pool_within}
+use Rattle.linkedit_merge.proofs.MergeLaws.{names_are, parts_are, size_is, passed_on, one_each, measured, breaks_where, fits_where, refused_exit, pool_within}
 use Rattle.linkedit_merge.specs.ReadBack.{AllReadBack, IsTrie}
 use Rattle.linkedit_merge.proofs.ReadLaws.{all_read_back}
 use Rattle.linkedit_merge.proofs.SpotLaws.{IsFrame, spots_are}
@@ -38,18 +37,10 @@ returns-in_err-pool-clause-cause c =
     (omega (arith, size, pool_within exports images tables (pool_len names))) c.from_residual-in_err-pool.ensures.1 c.in_err-pool.ensures.cause
 
 pub measure-requires-clause-one_each : goal.measure-requires-clause-one_each
-measure-requires-clause-one_each c =
-    let items = λ (e : Vec Export Global). e.items in
-    ap (λ (l : List (Vec Export Global)). length l) c.deref.ensures.value
-    ∙ (sym (length-map c.in_ok-exports.exports.items items)
-    ∙ (ap (λ (l : List (List Export)). length l) c.in_ok-exports.ensures.moved ∙ length-numbered (moved_at c.args.layout.now.moves) c.args.images.now))
+measure-requires-clause-one_each c = one_each c.deref.result.now c.in_ok-exports.exports.items c.args.images.now c.args.layout.now.moves c.deref.ensures.value c.in_ok-exports.ensures.moved
 
 pub write-requires-clause-one_each : goal.write-requires-clause-one_each
-write-requires-clause-one_each c =
-    let items = λ (e : Vec Export Global). e.items in
-    ap (λ (l : List (Vec Export Global)). length l) c.deref-2.ensures.value
-    ∙ (sym (length-map c.in_ok-exports.exports.items items)
-    ∙ (ap (λ (l : List (List Export)). length l) c.in_ok-exports.ensures.moved ∙ length-numbered (moved_at c.args.layout.now.moves) c.args.images.now))
+write-requires-clause-one_each c = one_each c.deref-2.result.now c.in_ok-exports.exports.items c.args.images.now c.args.layout.now.moves c.deref-2.ensures.value c.in_ok-exports.ensures.moved
 
 pub returns-in_err-sizes-clause-cause : goal.returns-in_err-sizes-clause-cause
 returns-in_err-sizes-clause-cause c =
@@ -60,11 +51,11 @@ returns-in_err-sizes-clause-cause c =
     let items = λ (e : Vec Export Global). e.items in
     let exports = map items c.deref.result.now in
     let names = names_of c.in_ok-pool.pool in
-    let moved = ap (λ (l : List (Vec Export Global)). map items l) c.deref.ensures.value ∙ c.in_ok-exports.ensures.moved in
-    let size = size_is images tables moves exports names c.requires.tables.many moved (c.in_ok-pool.ensures.names ∙ sym (names_are images tables moves c.requires.tables.many)) in
-    let pool = ap (λ (n : ℕ). whole_size exports images tables n) c.in_ok-pool.ensures.pool.long in
-    refused_exit c.args.layout.now c.args.slide_size shares (whole_size exports images tables c.in_ok-pool.pool.len) c.from_residual-in_err-sizes.result c.in_err-sizes.field-0.0
-    (omega (arith, size, pool)) c.from_residual-in_err-sizes.ensures.1 c.in_err-sizes.ensures.cause
+    let moved = passed_on c.deref.result.now c.in_ok-exports.exports.items (numbered (moved_at moves) images) c.deref.ensures.value c.in_ok-exports.ensures.moved in
+    let measure = whole_size exports images tables c.in_ok-pool.pool.len in
+    let whole = measured images tables moves exports names c.in_ok-pool.pool.len measure c.requires.tables.many moved c.in_ok-pool.ensures.names c.in_ok-pool.ensures.pool.long refl in
+    refused_exit c.args.layout.now c.args.slide_size shares measure c.from_residual-in_err-sizes.result c.in_err-sizes.field-0.0
+    (omega (arith, whole)) c.from_residual-in_err-sizes.ensures.1 c.in_err-sizes.ensures.cause
 
 pub returns-then-start-page_up-gt-SPAN_LIMIT-clause-cause : goal.returns-then-start-page_up-gt-SPAN_LIMIT-clause-cause
 returns-then-start-page_up-gt-SPAN_LIMIT-clause-cause c =
@@ -75,10 +66,8 @@ returns-then-start-page_up-gt-SPAN_LIMIT-clause-cause c =
     let items = λ (e : Vec Export Global). e.items in
     let exports = map items c.deref.result.now in
     let names = names_of c.in_ok-pool.pool in
-    let moved = ap (λ (l : List (Vec Export Global)). map items l) c.deref.ensures.value ∙ c.in_ok-exports.ensures.moved in
-    let size = size_is images tables moves exports names c.requires.tables.many moved (c.in_ok-pool.ensures.names ∙ sym (names_are images tables moves c.requires.tables.many)) in
-    let whole : c.in_ok-sizes.sizes.whole ≡ linkedit_size shares =
-    c.in_ok-sizes.ensures.whole.0 ∙ (ap (λ (n : ℕ). whole_size exports images tables n) c.in_ok-pool.ensures.pool.long ∙ sym size) in
+    let moved = passed_on c.deref.result.now c.in_ok-exports.exports.items (numbered (moved_at moves) images) c.deref.ensures.value c.in_ok-exports.ensures.moved in
+    let whole = measured images tables moves exports names c.in_ok-pool.pool.len c.in_ok-sizes.sizes.whole c.requires.tables.many moved c.in_ok-pool.ensures.names c.in_ok-pool.ensures.pool.long c.in_ok-sizes.ensures.whole.0 in
     breaks_where c.args.layout.now c.args.slide_size shares
     (omega (arith, c.if-start-page_up-gt-SPAN_LIMIT.true, c.linkedit_start-start.ensures.start, c.page_up.ensures.value, ap paged whole))
     ∙ ap (λ (x : Break). let o : Option Break = Some x in o) (sym c.too_large.ensures)
@@ -95,7 +84,7 @@ returns-clause-bytes c =
     let items = λ (e : Vec Export Global). e.items in
     let exports = map items c.deref-2.result.now in
     let names = names_of c.in_ok-pool.pool in
-    let moved = ap (λ (l : List (Vec Export Global)). map items l) c.deref-2.ensures.value ∙ c.in_ok-exports.ensures.moved in
+    let moved = passed_on c.deref-2.result.now c.in_ok-exports.exports.items (numbered (moved_at moves) images) c.deref-2.ensures.value c.in_ok-exports.ensures.moved in
     c.in_ok-written.ensures.written.bytes
     ∙ ap (λ (l : List (List ℕ)). joined l) (sym (parts_are images tables moves exports names moved (c.in_ok-pool.ensures.names ∙ sym (names_are images tables moves c.requires.tables.many))))
 
@@ -111,10 +100,9 @@ returns-clause-spots c =
     let written_exports = map items c.deref-2.result.now in
     let names = names_of c.in_ok-pool.pool in
     let names_is = c.in_ok-pool.ensures.names ∙ sym (names_are images tables moves c.requires.tables.many) in
-    let moved = ap (λ (l : List (Vec Export Global)). map items l) c.deref.ensures.value ∙ c.in_ok-exports.ensures.moved in
-    let written_moved = ap (λ (l : List (Vec Export Global)). map items l) c.deref-2.ensures.value ∙ c.in_ok-exports.ensures.moved in
-    let whole : c.in_ok-sizes.sizes.whole ≡ linkedit_size shares =
-    c.in_ok-sizes.ensures.whole.0 ∙ (ap (λ (n : ℕ). whole_size exports images tables n) c.in_ok-pool.ensures.pool.long ∙ sym (size_is images tables moves exports names c.requires.tables.many moved names_is)) in
+    let moved = passed_on c.deref.result.now c.in_ok-exports.exports.items (numbered (moved_at moves) images) c.deref.ensures.value c.in_ok-exports.ensures.moved in
+    let written_moved = passed_on c.deref-2.result.now c.in_ok-exports.exports.items (numbered (moved_at moves) images) c.deref-2.ensures.value c.in_ok-exports.ensures.moved in
+    let whole = measured images tables moves exports names c.in_ok-pool.pool.len c.in_ok-sizes.sizes.whole c.requires.tables.many moved c.in_ok-pool.ensures.names c.in_ok-pool.ensures.pool.long c.in_ok-sizes.ensures.whole.0 in
     let streams = c.in_ok-written.written.streams.items in
     let frame = c.in_ok-written.written.frame in
     let written = c.in_ok-written.ensures.written in
@@ -139,10 +127,8 @@ returns-clause-cause c =
     let items = λ (e : Vec Export Global). e.items in
     let exports = map items c.deref.result.now in
     let names = names_of c.in_ok-pool.pool in
-    let moved = ap (λ (l : List (Vec Export Global)). map items l) c.deref.ensures.value ∙ c.in_ok-exports.ensures.moved in
-    let size = size_is images tables moves exports names c.requires.tables.many moved (c.in_ok-pool.ensures.names ∙ sym (names_are images tables moves c.requires.tables.many)) in
-    let whole : c.in_ok-sizes.sizes.whole ≡ linkedit_size shares =
-    c.in_ok-sizes.ensures.whole.0 ∙ (ap (λ (n : ℕ). whole_size exports images tables n) c.in_ok-pool.ensures.pool.long ∙ sym size) in
+    let moved = passed_on c.deref.result.now c.in_ok-exports.exports.items (numbered (moved_at moves) images) c.deref.ensures.value c.in_ok-exports.ensures.moved in
+    let whole = measured images tables moves exports names c.in_ok-pool.pool.len c.in_ok-sizes.sizes.whole c.requires.tables.many moved c.in_ok-pool.ensures.names c.in_ok-pool.ensures.pool.long c.in_ok-sizes.ensures.whole.0 in
     fits_where c.args.layout.now c.args.slide_size shares
     (omega (arith, c.if-start-page_up-gt-SPAN_LIMIT.false, c.linkedit_start-start.ensures.start, c.page_up.ensures.value, ap paged whole))
 

@@ -2,7 +2,7 @@ use Rattle.std.proofs.Common.{◌≡◌, ◌<◌, List, Option, length, get_or, 
 use Rattle.dsc_base.specs.declared.fault.Site.{Site}
 use Rattle.dsc_base.specs.Refusals.{IsRefusal}
 use Rattle.prebind.specs.Indexed.{FrameOf, IndexOf}
-use Rattle.prebind.proofs.IndexLaws.{many_frames}
+use Rattle.prebind.proofs.IndexLaws.{within_each}
 use Rattle.prebind.proofs.ImageLaws.{own_image, frame_long, body_few, ordered_words, words_fault}
 use Rattle.prebind.proofs.place_indexed.image_words.Goals as goal
 
@@ -21,7 +21,7 @@ new-body-requires g c =
 
 pub returns-in-Ok-clause-found : goal.returns-in-Ok-clause-found
 returns-in-Ok-clause-found g c = λ set are own.
-    let within : c.args.image < length set.images = omega (arith, many_frames set c.args.links.now c.args.indexed.now are, many_frames c.requires.set c.args.links.now c.args.indexed.now c.requires.are, c.requires.within) in
+    let within = within_each set c.requires.set c.args.links.now c.args.indexed.now c.args.image are c.requires.are c.requires.within in
     let at = c.index-frame.ensures ∙ ap (λ (i : IndexOf). get_or i.frames c.args.image c.index-frame.result.now) c.indexed.view_is in
     let span = c.index-linkedit.ensures ∙ ap (λ (f : FrameOf). get_or f.segments (length c.args.segments.now) c.index-linkedit.result.now) c.frame.view_is in
     ordered_words set c.args.links.now c.args.indexed.now c.args.image c.args.segments.now c.args.rebases.now c.args.binds.now c.args.references.now c.index-frame.result.now c.index-linkedit.result.now c.new-body.result c.in_ok-placed.placed.items
@@ -29,7 +29,7 @@ returns-in-Ok-clause-found g c = λ set are own.
 
 pub returns-in-Ok-clause-cause : goal.returns-in-Ok-clause-cause
 returns-in-Ok-clause-cause g c = λ set are own.
-    let within : c.args.image < length set.images = omega (arith, many_frames set c.args.links.now c.args.indexed.now are, many_frames c.requires.set c.args.links.now c.args.indexed.now c.requires.are, c.requires.within) in
+    let within = within_each set c.requires.set c.args.links.now c.args.indexed.now c.args.image are c.requires.are c.requires.within in
     let at = c.index-frame.ensures ∙ ap (λ (i : IndexOf). get_or i.frames c.args.image c.index-frame.result.now) c.indexed.view_is in
     let span = c.index-linkedit.ensures ∙ ap (λ (f : FrameOf). get_or f.segments (length c.args.segments.now) c.index-linkedit.result.now) c.frame.view_is in
     sym (words_fault set c.args.links.now c.args.indexed.now c.args.image c.args.segments.now c.args.rebases.now c.args.binds.now c.args.references.now c.index-frame.result.now c.index-linkedit.result.now c.new-body.result are own within at span
@@ -38,7 +38,7 @@ returns-in-Ok-clause-cause g c = λ set are own.
 
 pub returns-in-Err-clause-cause : goal.returns-in-Err-clause-cause
 returns-in-Err-clause-cause g c = λ set are own.
-    let within : c.args.image < length set.images = omega (arith, many_frames set c.args.links.now c.args.indexed.now are, many_frames c.requires.set c.args.links.now c.args.indexed.now c.requires.are, c.requires.within) in
+    let within = within_each set c.requires.set c.args.links.now c.args.indexed.now c.args.image are c.requires.are c.requires.within in
     let at = c.index-frame.ensures ∙ ap (λ (i : IndexOf). get_or i.frames c.args.image c.index-frame.result.now) c.indexed.view_is in
     let span = c.index-linkedit.ensures ∙ ap (λ (f : FrameOf). get_or f.segments (length c.args.segments.now) c.index-linkedit.result.now) c.frame.view_is in
     subst (λ (o : Option Site). IsRefusal o c.in-Err.fault)

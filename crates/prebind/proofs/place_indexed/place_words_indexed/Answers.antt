@@ -8,13 +8,13 @@ use Rattle.macho_image.specs.Segments.{segments_at}
 use Rattle.prebind.specs.Words.{streams_at}
 use Rattle.prebind.specs.WordRules.{word_fault, place_break}
 use Rattle.prebind.proofs.PlaceLaws.{refused_in}
-use Rattle.prebind.proofs.IndexLaws.{many_frames}
+use Rattle.prebind.proofs.IndexLaws.{within_each}
 use Rattle.prebind.proofs.BoundLaws.{placed_all, break_is}
 use Rattle.prebind.proofs.place_indexed.place_words_indexed.Goals as goal
 
 pub returns-in-Ok-clause-found : goal.returns-in-Ok-clause-found
 returns-in-Ok-clause-found g c = λ set are own.
-    let within : c.args.image < length set.images = omega (arith, many_frames set c.args.links.now c.args.indexed.now are, many_frames c.requires.set c.args.links.now c.args.indexed.now c.requires.are, c.requires.within) in
+    let within = within_each set c.requires.set c.args.links.now c.args.indexed.now c.args.image are c.requires.are c.requires.within in
     placed_all set c.args.image c.in-Ok.words.items are.index.sound within (c.in-Ok.ensures.found set are own)
 
 pub returns-in-Ok-clause-cause : goal.returns-in-Ok-clause-cause

@@ -1,5 +1,7 @@
-use Rattle.prebind.proofs.InsideLaws.{inside_start}
+use Rattle.std.proofs.Common.{refl}
+use Rattle.macho_image.specs.Segments.{inside}
 use Rattle.prebind.proofs.segments.inside.Goals as goal
 
 pub loop-number-init : goal.loop-number-init
-loop-number-init c = inside_start c.args.segments.now c.args.address
+unfolding inside
+loop-number-init c = refl

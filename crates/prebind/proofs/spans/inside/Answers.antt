@@ -1,5 +1,7 @@
-use Rattle.prebind.proofs.SpanLaws.{within_start}
+use Rattle.std.proofs.Common.{refl}
+use Rattle.prebind.specs.Framed.{within}
 use Rattle.prebind.proofs.spans.inside.Goals as goal
 
 pub loop-number-init : goal.loop-number-init
-loop-number-init c = within_start c.args.spans.now c.args.address
+unfolding within
+loop-number-init c = refl

@@ -1,7 +1,6 @@
-use Rattle.std.proofs.Common.{◌≡◌, ap, ◌∙◌, arith, suc, true}
+use Rattle.std.proofs.Common.{◌≡◌, ap, ◌∙◌, arith, suc}
 use Rattle.macho_image.specs.Records.{Load}
-use Rattle.macho_image.specs.Rules.{begins_whole}
-use Rattle.macho_image.proofs.WalkLaws.{IsStep, walk_next, walk_behind}
+use Rattle.macho_image.proofs.WalkLaws.{walk_next, walk_behind}
 use Rattle.macho_image.proofs.commands.CommandsIterator.next.Goals as goal
 
 pub split_first-command-requires : goal.split_first-command-requires
