@@ -34,7 +34,7 @@ const TRIALS: [(&str, &str); 6] = [
 #[test]
 fn trials_are_told(rt: HostRuntime) -> Result<(), Fail> {
     let alloc = rt.alloc();
-    let forty = trial_line(&rt, alloc, 5, 40)?;
+    let forty = line_of_forty(&rt, alloc)?;
     for (line, begins) in TRIALS {
         let mut store = MemStore::new(alloc);
         let answer = run_line(&rt, alloc, line, &mut store, 99, 150)?;
@@ -52,28 +52,21 @@ fn trials_are_told(rt: HostRuntime) -> Result<(), Fail> {
     Ok(())
 }
 
-// The line of a trial, by the cache that `build` puts of its files.
-fn trial_line<R: Threads + Sync + Abort>(
-    rt: &R,
-    alloc: Global,
-    seed: u64,
-    count: u32,
-) -> Result<String, Fail> {
+// The line of `trial 5 40`, by the cache that `build` puts of the same files.
+fn line_of_forty<R: Threads + Sync + Abort>(rt: &R, alloc: Global) -> Result<String, Fail> {
     let shape = Shape {
         pages: 4,
         pointers: 100,
         links: 20,
     };
-    let files = generate(alloc, seed, count, &shape).ok().ok_or("memory")?;
+    let files = generate(alloc, 5, 40, &shape).ok().ok_or("memory")?;
     let mut store = MemStore::new(alloc);
     let mut line = String::from_str(alloc, "build c")?;
-    let mut number = 0;
-    for file in files {
+    for (number, file) in files.into_iter().enumerate() {
         let name = format!(in alloc; "{number}")?;
         line.push_str(" ")?;
         line.push_str(name.as_str())?;
         store.insert(name.as_str(), file)?;
-        number += 1;
     }
     let answer = run_line(rt, alloc, line.as_str(), &mut store, 99, 99)?;
     assert_eq!(rt; answer.status, Status::Done);
@@ -82,8 +75,8 @@ fn trial_line<R: Threads + Sync + Abort>(
     for byte in cache {
         sum = sum.wrapping_add(u64::from(*byte));
     }
-    let (words, span) = (120 * u64::from(count), cache.len());
-    Ok(format!(in alloc; "trial: {count} images, {words} words, span 0x{span:x}, sum {sum}\n")?)
+    let span = cache.len();
+    Ok(format!(in alloc; "trial: 40 images, 4800 words, span 0x{span:x}, sum {sum}\n")?)
 }
 
 // Seeds, how many dylibs, and their shapes, of which none breaks a rule: the least, the fullest, and others.
@@ -105,19 +98,38 @@ const ACCEPTED: [(u64, u32, u32, u32, u32); 12] = [
 #[test]
 fn generated_dylibs_are_accepted(rt: HostRuntime) -> Result<(), Fail> {
     let alloc = rt.alloc();
-    let options = Options {
-        jobs: 2,
-        delta_bits: 16,
-    };
     for (seed, count, pages, pointers, links) in ACCEPTED {
         let shape = Shape {
             pages,
             pointers,
             links,
         };
-        let files = generate(alloc, seed, count, &shape).ok().ok_or("memory")?;
-        let cache = build(&rt, alloc, &files, &options, &OpenGate);
-        assert_eq!(rt; cache.is_ok(), true, "{seed}");
+        assert_eq!(rt;
+            is_accepted(&rt, alloc, seed, count, &shape)?,
+            true,
+            "{seed}"
+        );
     }
     Ok(())
+}
+
+// Whether `build` accepts the dylibs that are generated, of a shape within the limits of one.
+fn is_accepted<R: Threads + Sync>(
+    rt: &R,
+    alloc: Global,
+    seed: u64,
+    count: u32,
+    shape: &Shape,
+) -> Result<bool, Fail> {
+    let words = u64::from(shape.pointers) + u64::from(shape.links);
+    let is_shape = 1 <= shape.pages && shape.pages <= 256 && words <= 128 * u64::from(shape.pages);
+    if !is_shape || count < 1 || count > 4096 {
+        return Ok(false);
+    }
+    let options = Options {
+        jobs: 2,
+        delta_bits: 16,
+    };
+    let files = generate(alloc, seed, count, shape).ok().ok_or("memory")?;
+    Ok(build(rt, alloc, &files, &options, &OpenGate).is_ok())
 }
