@@ -10,8 +10,9 @@ use Rattle.macho_image.specs.Macho.{header_size, loads_of, segment_loads, segmen
 use Rattle.macho_image.specs.Rules.{first_segment, is_well_shaped, first_crossing, misplaced}
 use Rattle.macho_image.specs.Breaks.{unread, IsSound}
 use Rattle.macho_image.proofs.Unbroken.{least_none_both}
-use Rattle.macho_image.proofs.SegmentLaws.{IsApart, contains_yes}
-use Rattle.macho_image.proofs.SegmentLaws as segments
+use Rattle.macho_image.specs.Index.{IsApart}
+use Rattle.macho_image.specs.Index as index
+use Rattle.macho_image.proofs.SegmentLaws.{contains_yes}
 use Rattle.macho_image.proofs.SoundSegments.{segment_shape, segments_keep_apart, segments_low}
 use Rattle.load_model.proofs.LoadingLaws.{KeepApart, AreApartFrom, AreApart}
 
@@ -55,7 +56,7 @@ segments_filled image sound =
     shaped true k a b none = absurd (cc)
     shaped false k a b none = (least_none_both a b none).0
 
-joined : (ss : List Seg) → segments.AreApart ss → AllByRecursion (λ (s : Seg). s.vmaddr + s.vmsize ≤ 0x8000_0000_0000) ss → AllByRecursion (λ (s : Seg). s.filesize ≤ s.vmsize) ss
+joined : (ss : List Seg) → index.AreApart ss → AllByRecursion (λ (s : Seg). s.vmaddr + s.vmsize ≤ 0x8000_0000_0000) ss → AllByRecursion (λ (s : Seg). s.filesize ≤ s.vmsize) ss
     → map (λ (s : Seg). length s.bytes) ss ≡ map (λ (s : Seg). s.filesize) ss → AreApart ss
 joined [] apart low filled sizes = tt
 joined (s ∷ ss) apart low filled sizes =

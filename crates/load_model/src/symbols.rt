@@ -10,7 +10,7 @@ ghost use Rattle.load_model.specs.Phases.{first_of};
 ghost use Rattle.load_model.specs.Placed.{AreAllPlaced};
 
 use dsc_base::SetFault;
-use prebind::{PlacedWord, Set, check_exports, place_words};
+use prebind::{PlacedWord, Set, check_exports, index_set, place_words_by};
 use std::alloc::Global;
 
 /// Refuses the first export that leads into no segment or into `__LINKEDIT`.
@@ -28,7 +28,7 @@ pub(crate) fn check_all_exports(alloc: Global, set: &Set<'_, '_>) -> Result<(), 
 }
 
 /// The pointers of each image in address order, each with where it leads, or the first rule that one of them
-/// breaks.
+/// breaks. All are found by one index of the set.
 pub(crate) fn place_all_words(
     alloc: Global,
     set: &Set<'_, '_>,
@@ -37,9 +37,10 @@ pub(crate) fn place_all_words(
     ensures placed { IfOk result (λ v. AreAllPlaced (set_of set.now) v.items) }
     ensures cause { RefusesSet (first_of (place_break (set_of set.now)) (length set.now.images.now)) result }
 {
+    let indexed = index_set(alloc, set)?;
     let mut words = Vec::with_capacity(alloc, set.images.len())?;
     for image in 0..set.images.len() as u32 {
-        match place_words(alloc, set, image) {
+        match place_words_by(alloc, set, &indexed, image) {
             Ok(own) => words.push(own)?,
             Err(fault) => return Err(fault),
         }

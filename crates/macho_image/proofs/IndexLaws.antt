@@ -12,8 +12,8 @@ use Rattle.macho_image.specs.Records.{Seg}
 use Rattle.macho_image.specs.declared.places.segment_index.Inside.{Inside}
 use Rattle.macho_image.specs.declared.places.segment_index.Entry.{Entry}
 use Rattle.macho_image.specs.Segments.{contains, inside_from, inside}
-use Rattle.macho_image.specs.Index.{covers, place_in, found_in, Indexes, entries_from, ends_by, IsBefore}
-use Rattle.macho_image.proofs.SegmentLaws.{IsApart, AreApart, contains_none}
+use Rattle.macho_image.specs.Index.{IsApart, AreApart, covers, place_in, found_in, Indexes, entries_from, ends_by, IsBefore}
+use Rattle.macho_image.proofs.SegmentLaws.{contains_none}
 
 entry_of : ℕ → Seg → Entry
 entry_of g s = record { segment = g; start = s.vmaddr; size = s.vmsize }

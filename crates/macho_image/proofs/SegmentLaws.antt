@@ -7,6 +7,7 @@ use Rattle.std.proofs.lemmas.Bool.Decides.{nat_tests}
 use Rattle.macho_image.specs.Records.{Seg}
 use Rattle.macho_image.specs.declared.places.segment_index.Inside.{Inside}
 use Rattle.macho_image.specs.Segments.{contains, inside_from, inside}
+use Rattle.macho_image.specs.Index.{IsApart, AreApart}
 
 pub contains_yes : (s : Seg) (x : ℕ) → s.vmaddr ≤ x → x < s.vmaddr + s.vmsize → contains s x ≡ true
 contains_yes s x low high = grind (arith, nat_tests)
@@ -19,14 +20,6 @@ contains_high s x is = grind (arith, nat_tests)
 
 pub contains_none : (s : Seg) (x : ℕ) → s.vmsize ≡ 0 → contains s x ≡ false
 contains_none s x none = grind (arith, nat_tests)
-
--- no address of one segment is an address of the other
-abbrev pub IsApart : Seg → Seg → Type 0
-IsApart s t = (x : ℕ) → contains s x ≡ true → contains t x ≡ false
-
-abbrev pub AreApart : List Seg → Type 0
-AreApart [] = Unit {0}
-AreApart (s ∷ ss) = AllByRecursion (IsApart s) ss × AreApart ss
 
 here_from : (g : ℕ) (s : Seg) (ss : List Seg) (x : ℕ) → contains s x ≡ true → inside_from g (s ∷ ss) x ≡ Some (record { segment = g; distance = x - s.vmaddr })
 here_from g s ss x is = cond-true (contains s x) (Some (record { segment = g; distance = x - s.vmaddr })) (inside_from (g + 1) ss x) is

@@ -17,7 +17,8 @@ use Rattle.macho_image.specs.Breaks.{kind_break, command_break, section_break, n
 use Rattle.macho_image.proofs.Sharing.{segments_apart}
 use Rattle.macho_image.proofs.Unbroken.{or_none, broken_none, least_none_both}
 use Rattle.macho_image.specs.Segments.{contains}
-use Rattle.macho_image.proofs.SegmentLaws.{IsApart, AreApart, contains_low, contains_high}
+use Rattle.macho_image.specs.Index.{IsApart, AreApart}
+use Rattle.macho_image.proofs.SegmentLaws.{contains_low, contains_high}
 
 -- what rule 10 gives of an image's segments
 pub segment_shape : (image : Img) → IsSound image → breaks_segment_shape (header_size image.header) (segment_loads (loads_of image.header)) ≡ None

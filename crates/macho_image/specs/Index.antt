@@ -1,9 +1,18 @@
 -- An index of segments: those that have addresses, one behind the other.
-use Rattle.std.specs.Prelude.{◌≡◌, ◌≤◌, ℕ, ◌+◌, ◌-◌, Bool, ◌&&◌, List, [], ◌∷◌, find, Option, option_map, nat_le, nat_lt, if◌then◌else◌}
+use Rattle.std.specs.Prelude.{◌≡◌, ◌≤◌, ℕ, ◌+◌, ◌-◌, Bool, ◌&&◌, true, false, List, [], ◌∷◌, find, Option, option_map, nat_le, nat_lt, if◌then◌else◌}
+use Rattle.std.specs.List.{AllByRecursion}
 use Rattle.macho_image.specs.Records.{Seg}
 use Rattle.macho_image.specs.declared.places.segment_index.Inside.{Inside}
 use Rattle.macho_image.specs.declared.places.segment_index.Entry.{Entry}
-use Rattle.macho_image.specs.Segments.{inside}
+use Rattle.macho_image.specs.Segments.{contains, inside}
+
+-- no address of one segment is an address of the other
+abbrev pub IsApart : Seg → Seg → Type 0
+IsApart s t = (x : ℕ) → contains s x ≡ true → contains t x ≡ false
+
+abbrev pub AreApart : List Seg → Type 0
+AreApart [] = Unit {0}
+AreApart (s ∷ ss) = AllByRecursion (IsApart s) ss × AreApart ss
 
 -- the addresses from the start of an entry on, as many as its size
 abbrev pub covers : ℕ → Entry → Bool

@@ -1,7 +1,7 @@
 -- An image by its segments other than `__LINKEDIT`: its words lead where those of the whole image do.
 use Rattle.std.proofs.Common.{◌≡◌, ◌<◌, ◌≤◌, ◌+◌, ◌^◌, ℕ, Bool, true, List, [], ◌∷◌, ◌++◌, length, map, get_or, refl, sym, ap, subst, ◌∙◌, arith, inl, inr, Option, Some, None, length-append}
 use Rattle.std.specs.Prelude.{slice_get}
-use Rattle.std.specs.List.{All}
+use Rattle.std.specs.List.{All, AllByRecursion}
 use Rattle.std.specs.Option.{option_or}
 use Rattle.std.proofs.lemmas.List.{length-map, get_or-map, map-append}
 use Rattle.std.proofs.lemmas.List.Elements.{All-weaker}
@@ -13,7 +13,8 @@ use Rattle.macho_image.specs.Rules.{is_linkedit_segment}
 use Rattle.macho_image.specs.declared.place.Location.{Location}
 use Rattle.macho_image.specs.Places.{IsWord}
 use Rattle.macho_image.specs.Segments.{number_within, value_of, segments_in, segments_at}
-use Rattle.macho_image.proofs.SoundSegments.{few_segments}
+use Rattle.macho_image.specs.Index.{IsApart, AreApart}
+use Rattle.macho_image.proofs.SoundSegments.{few_segments, segments_keep_apart}
 use Rattle.rebase_ops.specs.Rebases.{rebases_of}
 use Rattle.rebase_ops.proofs.RebaseLaws.{accepted_rebases}
 use Rattle.bind_ops.specs.Records.{BoundWord}
@@ -47,6 +48,7 @@ pub record OwnImage (set : ImageSet) (k : ℕ) (segments : List Seg) (frame : Fr
   pub named : is_linkedit_segment linkedit ≡ true
   pub read_only : linkedit.initprot ≡ 1
   pub few : length image.segments < 2 ^ 32
+  pub apart : AreApart image.segments
 
 pub own_image : (set : ImageSet) (links : Linked) (indexed : IndexOf) (k : ℕ) (segments : List Seg) (rebases : List Location) (binds : List BoundWord) (references : List Reference) (frame : FrameOf) → AreOf set links indexed
     → AreOfImage set k segments rebases binds references → k < length set.images → frame ≡ get_or indexed.frames k frame → OwnImage set k segments frame
@@ -66,6 +68,7 @@ own_image set links indexed k segments rebases binds references frame are own lt
       named = ends.named;
       read_only = ends.read_only;
       few = few_segments image read.sound read.bytes;
+      apart = segments_keep_apart image read.sound;
     }
 
 -- the frame has one segment more
@@ -75,6 +78,18 @@ frame_long set k segments frame own =
 
 pub body_few : (set : ImageSet) (k : ℕ) (segments : List Seg) (frame : FrameOf) → OwnImage set k segments frame → length segments < 2 ^ 32
 body_few set k segments frame own = omega (arith, own.few, ap (λ (ss : List Seg). length ss) own.split, length-append segments (own.linkedit ∷ []))
+
+-- which share no address
+before_apart : (s : Seg) (ss ts : List Seg) → AllByRecursion (IsApart s) (ss ++ ts) → AllByRecursion (IsApart s) ss
+before_apart s [] ts all = tt
+before_apart s (t ∷ ss) ts all = (all.0, before_apart s ss ts all.1)
+
+all_apart : (ss ts : List Seg) → AreApart (ss ++ ts) → AreApart ss
+all_apart [] ts apart = tt
+all_apart (s ∷ ss) ts apart = (before_apart s ss ts apart.0, all_apart ss ts apart.1)
+
+pub body_apart : (set : ImageSet) (k : ℕ) (segments : List Seg) (frame : FrameOf) → OwnImage set k segments frame → AreApart segments
+body_apart set k segments frame own = all_apart segments (own.linkedit ∷ []) (subst (λ (ss : List Seg). AreApart ss) own.split own.apart)
 
 -- whose last one is `__LINKEDIT`
 last_span : (set : ImageSet) (k : ℕ) (segments : List Seg) (frame : FrameOf) (span : Span) (own : OwnImage set k segments frame) → span ≡ get_or frame.segments (length segments) span → span ≡ span_of own.linkedit

@@ -31,11 +31,6 @@ unfolding pointers_of
 words_here set k image s sound lt image_is streams_is =
     sym (ap₂ (λ (ss : List Seg) (t : StreamLists). all_pointers set k ss t) (segments_here set k image lt image_is) (streams_here set k s sound lt streams_is))
 
-pub break_here : (set : ImageSet) (k : ℕ) (image : Img) (s : StreamLists) → IsSoundSet set → k < length set.images → image ≡ get_or set.images k image → s ≡ get_or set.streams k s → option_map (in_image k) (word_fault set k image.segments s) ≡ place_break set k
-unfolding place_break symbol_break linkedit_pointer_break stray_pointer_break recorded_pointer_break
-break_here set k image s sound lt image_is streams_is =
-    sym (ap₂ (λ (ss : List Seg) (t : StreamLists). option_map (in_image k) (word_fault set k ss t)) (segments_here set k image lt image_is) (streams_here set k s sound lt streams_is))
-
 pub refused_in : (k : ℕ) (found : Option Site) (fault : Fault) → IsRefusal found fault → IsSetRefusal (option_map (in_image k) found) (in_set k fault)
 refused_in k found (Broken site) is = ap (λ (o : Option Site). option_map (in_image k) o) is
 refused_in k found Memory is = tt
@@ -48,14 +43,6 @@ looked_words k ss bound pointer bs rs ls told recorded = λ j. rebased_words k s
 pub looked_fault : (ss : List Seg) (bound : ℕ → Bool) (pointer : ℕ → Option ℕ) (bs : List BoundWord) (rs : List Reference) (ls : List Location) → ((a : ℕ) → bound a ≡ is_bound bs a) → ((a : ℕ) → pointer a ≡ pointer_at rs a)
     → rebase_fault ss bound pointer ls ≡ rebase_fault ss (is_bound bs) (pointer_at rs) ls
 looked_fault ss bound pointer bs rs ls told recorded = λ j. rebase_fault ss (λ a. told a j) (λ a. recorded a j) ls
-
--- the rules of rebases are those of all words where binds break none
-pub faults_are : (set : ImageSet) (k : ℕ) (ss whole : List Seg) (s : StreamLists) (placed bs : List BoundWord) (rs : List Reference) (ls : List Location) → whole ≡ ss → placed ≡ s.binds → bs ≡ s.binds → rs ≡ s.references → ls ≡ s.rebases → bind_fault_from set k 0 placed ≡ None
-    → rebase_fault whole (is_bound bs) (pointer_at rs) ls ≡ word_fault set k ss s
-faults_are set k ss whole s placed bs rs ls segments_are placed_are binds_are references_are rebases_are none =
-    let unbroken : bind_fault_from set k 0 s.binds ≡ None = sym (ap (λ (l : List BoundWord). bind_fault_from set k 0 l) placed_are) ∙ none in
-    (λ j. rebase_fault (segments_are j) (is_bound (binds_are j)) (pointer_at (references_are j)) (rebases_are j))
-    ∙ sym (ap (λ (o : Option Site). option_or o (rebase_fault ss (is_bound s.binds) (pointer_at s.references) s.rebases)) unbroken)
 
 pub placed_here : (set : ImageSet) (k : ℕ) (image : Img) (s : StreamLists) (words : List PlacedWord) → IsSoundSet set → k < length set.images → image ≡ get_or set.images k image → s ≡ get_or set.streams k s → AreOrdered (all_pointers set k image.segments s) words → ArePlaced (pointers_of set k) words
 placed_here set k image s words sound lt image_is streams_is ordered =

@@ -1,9 +1,11 @@
 -- The segments of an image where `__LINKEDIT`, the last of them, is told by its addresses alone.
-use Rattle.std.specs.Prelude.{◌≡◌, ◌<◌, ℕ, Bool, not, List, [], ◌∷◌, ◌++◌, length, filter, codes}
+use Rattle.std.specs.Prelude.{◌≡◌, ◌<◌, ◌^◌, ℕ, Bool, not, List, [], ◌∷◌, ◌++◌, length, filter, codes}
 use Rattle.dsc_base.specs.declared.fault.Span.{Span}
 use Rattle.macho_image.specs.Records.{Seg}
 use Rattle.macho_image.specs.Rules.{is_linkedit_segment}
 use Rattle.macho_image.specs.Segments.{segments_at}
+use Rattle.macho_image.specs.Index.{Indexes}
+use Rattle.macho_image.specs.declared.places.segment_index.Entry.{Entry}
 use Rattle.macho_image.specs.declared.place.Location.{Location}
 use Rattle.bind_ops.specs.Records.{BoundWord}
 use Rattle.split_info.specs.declared.reference.Reference.{Reference}
@@ -25,6 +27,11 @@ is_body s = not (is_linkedit_segment s)
 
 abbrev pub body_of : List Seg → List Seg
 body_of segments = filter is_body segments
+
+-- segments in a number that the names of segments can tell, and an index of them
+pub record IsBody (segments : List Seg) (index : List Entry) : Type 0 where
+  pub few : length segments < 2 ^ 32
+  pub indexed : Indexes segments index
 
 -- what image k of a set has: its segments other than `__LINKEDIT`, in command order, and what its streams spell
 pub record AreOfImage (set : ImageSet) (k : ℕ) (segments : List Seg) (rebases : List Location) (binds : List BoundWord) (references : List Reference) : Type 0 where

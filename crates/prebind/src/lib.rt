@@ -2,6 +2,7 @@
 //! `mach-o/loader.h` of Apple's published sources.
 #![tactic(auto)]
 
+mod body;
 mod exports;
 mod index;
 mod lookups;
@@ -13,7 +14,6 @@ mod reading;
 mod rebased;
 mod resolution;
 mod resolved;
-mod segment_lookup;
 mod segments;
 mod set;
 mod spans;
@@ -23,7 +23,7 @@ mod words;
 
 pub use exports::check_exports;
 pub use index::{Frame, Indexed, index_set};
-pub use place::place_words;
+pub use place::{place_words, place_words_by};
 pub use place_indexed::{body_segments, place_words_indexed};
 pub use probing::resolve_indexed;
 pub use reading::read_streams;

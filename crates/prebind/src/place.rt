@@ -1,35 +1,18 @@
 // The words of an image given their places.
 ghost use Rattle.std.specs.Prelude.{◌≡◌, ◌<◌, length, IfOk};
-ghost use Rattle.dsc_base.specs.Refusals.{in_set, RefusesSet, Refuses};
+ghost use Rattle.dsc_base.specs.Refusals.{RefusesSet};
+ghost use Rattle.prebind.specs.Indexed.{IsIndexOf};
 ghost use Rattle.prebind.specs.Sets.{IsSoundSet};
 ghost use Rattle.prebind.specs.Steps.{set_of};
 ghost use Rattle.prebind.specs.Words as spec;
 ghost use Rattle.prebind.specs.WordRules as rules;
 
-use crate::words::words_in;
-use crate::{ImageStreams, PlacedWord, Set};
-use dsc_base::{Fault, SetFault};
-use macho_image::{Image, SegmentIndex};
+use crate::{Indexed, PlacedWord, Set, body_segments, index_set, place_words_indexed};
+use dsc_base::SetFault;
+use export_trie::Steps;
 use std::alloc::Global;
-
-fn image_words(
-    alloc: Global,
-    set: &Set<'_, '_>,
-    number: u32,
-    image: &Image<'_>,
-    streams: &ImageStreams<'_>,
-) -> Result<Vec<PlacedWord>, Fault>
-    requires sound { IsSoundSet (set_of set.now) }
-    requires image { number < length set.now.images.now }
-    ensures found { IfOk result (λ v. spec.AreOrdered (spec.all_pointers (set_of set.now) number image.now.segments streams.now) v.items) }
-    ensures cause { Refuses (rules.word_fault (set_of set.now) number image.now.segments streams.now) result }
-{
-    let index = SegmentIndex::new(alloc, image)?;
-    match words_in(alloc, set, number, &image.segments, &index, streams) {
-        Ok(words) => Ok(words),
-        Err(fault) => Err(fault),
-    }
-}
+use std::marker::Brand;
+use std::sync::ledger::{Blank, Ledger};
 
 /// All words of an image that are bound or rebased, in address order, each with where it leads. A bound
 /// word leads where its symbol does, as far behind as its addend says, also where it is rebased too; a weak
@@ -52,10 +35,54 @@ pub fn place_words(
     ensures found { IfOk result (λ v. spec.ArePlaced (spec.pointers_of (set_of set.now) image) v.items) }
     ensures cause { RefusesSet (rules.place_break (set_of set.now) image) result }
 {
-    let file = &set.images[image as usize];
+    let indexed = index_set(alloc, set)?;
+    place_words_by(alloc, set, &indexed, image)
+}
+
+/// What `place_words` answers, by an index of the set that was made before: so the words of all images take
+/// one index.
+pub fn place_words_by(
+    alloc: Global,
+    set: &Set<'_, '_>,
+    indexed: &Indexed,
+    image: u32,
+) -> Result<Vec<PlacedWord>, SetFault>
+    requires index { IsIndexOf (set_of set.now) indexed.now }
+    requires image { image < length set.now.images.now }
+    ensures found { IfOk result (λ v. spec.ArePlaced (spec.pointers_of (set_of set.now) image) v.items) }
+    ensures cause { RefusesSet (rules.place_break (set_of set.now) image) result }
+{
+    place_counted::<Brand>(alloc, set, indexed, image, Blank::new(1))
+}
+
+// The same, with a counter of steps of its own.
+fn place_counted<L: Ledger>(
+    alloc: Global,
+    set: &Set<'_, '_>,
+    indexed: &Indexed,
+    image: u32,
+    blank: Blank,
+) -> Result<Vec<PlacedWord>, SetFault>
+    requires name { blank.name ≡ L.name }
+    requires parts { blank.parts ≡ L.parts }
+    requires one { blank.parts ≡ 1 }
+    requires index { IsIndexOf (set_of set.now) indexed.now }
+    requires image { image < length set.now.images.now }
+    ensures found { IfOk result (λ v. spec.ArePlaced (spec.pointers_of (set_of set.now) image) v.items) }
+    ensures cause { RefusesSet (rules.place_break (set_of set.now) image) result }
+{
     let streams = &set.streams[image as usize];
-    match image_words(alloc, set, image, file, streams) {
-        Ok(words) => Ok(words),
-        Err(fault) => Err(fault.in_image(image)),
-    }
+    let segments = body_segments(&set.images[image as usize]);
+    let mut steps = Steps::<L>::new(blank);
+    place_words_indexed(
+        alloc,
+        set.links,
+        indexed,
+        image,
+        segments,
+        &streams.rebases,
+        &streams.binds,
+        &streams.references,
+        &mut steps,
+    )
 }

@@ -9,15 +9,15 @@ ghost use Rattle.prebind.specs.Words as spec;
 ghost use Rattle.prebind.specs.WordRules as rules;
 
 use crate::PlacedWord;
+use crate::body::Body;
 use crate::index::Indexed;
 use crate::probing::resolve_indexed;
-use crate::segment_lookup::Body;
 use crate::words::{place_resolved, with_rebases};
 use bind_ops::Bind;
 use dep_closure::Links;
 use dsc_base::{Fault, SetFault};
 use export_trie::Steps;
-use macho_image::{Image, Location, Segment};
+use macho_image::{Image, Location, Segment, SegmentIndex};
 use split_info::Reference;
 use std::alloc::Global;
 use std::sync::ledger::Ledger;
@@ -84,7 +84,8 @@ fn image_words<L: Ledger>(
     let placed = place_binds(alloc, links, indexed, image, binds, steps)?;
     let frame = &indexed.frames[image as usize];
     let linkedit = frame.segments[segments.len()];
-    let body = Body::new(segments, linkedit);
+    let index = SegmentIndex::over(alloc, segments)?;
+    let body = Body::new(segments, &index, linkedit);
     match with_rebases(alloc, &body, image, binds, references, rebases, placed) {
         Ok(words) => Ok(words),
         Err(fault) => Err(fault),

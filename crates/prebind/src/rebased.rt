@@ -8,13 +8,13 @@ ghost use Rattle.prebind.specs.WordRules as rules;
 ghost use Rattle.prebind.specs.Targets as targets;
 
 use crate::WordTarget;
-use crate::segment_lookup::SegmentLookup;
+use crate::body::Body;
 use dsc_base::{Fault, Rule, Site};
 use indexmap::{IndexMap, IndexSet};
 use macho_image::Location;
 
-fn points_into_linkedit<S: SegmentLookup>(segments: &S, value: u64, recorded: Option<u32>) -> bool
-    ensures { result ≡ rules.breaks_135 (S.all segments.now) value recorded }
+fn points_into_linkedit(segments: &Body<'_, '_>, value: u64, recorded: Option<u32>) -> bool
+    ensures { result ≡ rules.breaks_135 segments.now value recorded }
 {
     if recorded.is_some() {
         return false;
@@ -25,8 +25,8 @@ fn points_into_linkedit<S: SegmentLookup>(segments: &S, value: u64, recorded: Op
     }
 }
 
-fn points_nowhere<S: SegmentLookup>(segments: &S, value: u64, recorded: Option<u32>) -> bool
-    ensures { result ≡ rules.breaks_136 (S.all segments.now) value recorded }
+fn points_nowhere(segments: &Body<'_, '_>, value: u64, recorded: Option<u32>) -> bool
+    ensures { result ≡ rules.breaks_136 segments.now value recorded }
 {
     if recorded.is_some() {
         return false;
@@ -34,8 +34,8 @@ fn points_nowhere<S: SegmentLookup>(segments: &S, value: u64, recorded: Option<u
     segments.find(value).is_none()
 }
 
-fn points_out_of_range<S: SegmentLookup>(segments: &S, value: u64, recorded: Option<u32>) -> bool
-    ensures { result ≡ rules.breaks_137 (S.all segments.now) value recorded }
+fn points_out_of_range(segments: &Body<'_, '_>, value: u64, recorded: Option<u32>) -> bool
+    ensures { result ≡ rules.breaks_137 segments.now value recorded }
 {
     match recorded {
         Some(number) => segments.is_out_of(number, value),
@@ -44,8 +44,8 @@ fn points_out_of_range<S: SegmentLookup>(segments: &S, value: u64, recorded: Opt
 }
 
 // The place of a value in the segment that contains it, unless that is `__LINKEDIT`.
-fn value_place<S: SegmentLookup>(segments: &S, image: u32, value: u64) -> WordTarget
-    ensures { result ≡ targets.value_place image (S.all segments.now) value (inside (S.all segments.now) value) }
+fn value_place(segments: &Body<'_, '_>, image: u32, value: u64) -> WordTarget
+    ensures { result ≡ targets.value_place image segments.now value (inside segments.now value) }
 {
     match segments.find(value) {
         Some(place) if !segments.is_linkedit_at(place.segment) => WordTarget::Place {
@@ -59,13 +59,13 @@ fn value_place<S: SegmentLookup>(segments: &S, image: u32, value: u64) -> WordTa
 
 /// Where a rebase of image number `image` leads that has this value.
 #[tactic(auto, unfolding(macho_image::specs::Places::above))]
-pub(crate) fn target_of<S: SegmentLookup>(
-    segments: &S,
+pub(crate) fn target_of(
+    segments: &Body<'_, '_>,
     image: u32,
     value: u64,
     recorded: Option<u32>,
 ) -> WordTarget
-    ensures { result ≡ targets.rebase_target image (S.all segments.now) value recorded }
+    ensures { result ≡ targets.rebase_target image segments.now value recorded }
 {
     match recorded {
         Some(segment) => WordTarget::Place {
@@ -89,13 +89,13 @@ pub(crate) fn recorded_at(pointers: &IndexMap<u64, u32>, word: &Location) -> Opt
     pointers.get(&word.address).copied()
 }
 
-fn first_into_linkedit<S: SegmentLookup>(
-    segments: &S,
+fn first_into_linkedit(
+    segments: &Body<'_, '_>,
     bound: &IndexSet<u64>,
     pointers: &IndexMap<u64, u32>,
     words: &[Location],
 ) -> Option<usize>
-    ensures { result ≡ rules.first_rebase rules.breaks_135 (S.all segments.now) (contains nat_eq bound.now) (get nat_eq pointers.now) words.now }
+    ensures { result ≡ rules.first_rebase rules.breaks_135 segments.now (contains nat_eq bound.now) (get nat_eq pointers.now) words.now }
 {
     words.iter().position(|l| {
         is_free(bound, l)
@@ -103,13 +103,13 @@ fn first_into_linkedit<S: SegmentLookup>(
     })
 }
 
-fn first_nowhere<S: SegmentLookup>(
-    segments: &S,
+fn first_nowhere(
+    segments: &Body<'_, '_>,
     bound: &IndexSet<u64>,
     pointers: &IndexMap<u64, u32>,
     words: &[Location],
 ) -> Option<usize>
-    ensures { result ≡ rules.first_rebase rules.breaks_136 (S.all segments.now) (contains nat_eq bound.now) (get nat_eq pointers.now) words.now }
+    ensures { result ≡ rules.first_rebase rules.breaks_136 segments.now (contains nat_eq bound.now) (get nat_eq pointers.now) words.now }
 {
     words.iter().position(|l| {
         is_free(bound, l)
@@ -117,13 +117,13 @@ fn first_nowhere<S: SegmentLookup>(
     })
 }
 
-fn first_out_of_range<S: SegmentLookup>(
-    segments: &S,
+fn first_out_of_range(
+    segments: &Body<'_, '_>,
     bound: &IndexSet<u64>,
     pointers: &IndexMap<u64, u32>,
     words: &[Location],
 ) -> Option<usize>
-    ensures { result ≡ rules.first_rebase rules.breaks_137 (S.all segments.now) (contains nat_eq bound.now) (get nat_eq pointers.now) words.now }
+    ensures { result ≡ rules.first_rebase rules.breaks_137 segments.now (contains nat_eq bound.now) (get nat_eq pointers.now) words.now }
 {
     words.iter().position(|l| {
         is_free(bound, l)
@@ -142,13 +142,13 @@ fn refused(rule: Rule, index: usize) -> Fault
 
 /// Refuses the first of the rules that rebases break: all that lead into `__LINKEDIT` go before those that
 /// lead into no segment, and these before recorded ones that leave their segment.
-pub(crate) fn check_rebases<S: SegmentLookup>(
-    segments: &S,
+pub(crate) fn check_rebases(
+    segments: &Body<'_, '_>,
     bound: &IndexSet<u64>,
     pointers: &IndexMap<u64, u32>,
     words: &[Location],
 ) -> Result<(), Fault>
-    ensures { Refuses (rules.rebase_fault (S.all segments.now) (contains nat_eq bound.now) (get nat_eq pointers.now) words.now) result }
+    ensures { Refuses (rules.rebase_fault segments.now (contains nat_eq bound.now) (get nat_eq pointers.now) words.now) result }
 {
     if let Some(at) = first_into_linkedit(segments, bound, pointers, words) {
         return Err(refused(Rule::PointsIntoLinkedit, at));

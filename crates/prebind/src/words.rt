@@ -4,22 +4,18 @@ ghost use Rattle.std.specs.List.Sorted.{IsPermutation, IsNonDecreasingBy};
 ghost use Rattle.indexmap.specs.IndexMap.{get};
 ghost use Rattle.indexmap.specs.IndexSet.{contains};
 ghost use Rattle.dsc_base.specs.Refusals.{Refuses};
-ghost use Rattle.macho_image.specs.Index.{Indexes};
-ghost use Rattle.prebind.specs.Sets.{IsSoundSet};
-ghost use Rattle.prebind.specs.Steps.{set_of};
 ghost use Rattle.prebind.specs.Words as spec;
 ghost use Rattle.prebind.specs.WordRules as rules;
 ghost use Rattle.prebind.specs.Targets as targets;
 
+use crate::body::Body;
 use crate::lookups::{bound_addresses, recorded_pointers};
 use crate::rebased::{check_rebases, is_free, recorded_at, target_of};
-use crate::resolution::resolve;
-use crate::segment_lookup::{SegmentLookup, Whole};
-use crate::{ImageStreams, PlacedWord, Resolved, Set, WordTarget};
+use crate::{PlacedWord, Resolved, WordTarget};
 use bind_ops::Bind;
 use dsc_base::{Fault, NoMemory, Rule, Site};
 use indexmap::{IndexMap, IndexSet};
-use macho_image::{Location, Segment, SegmentIndex};
+use macho_image::Location;
 use split_info::Reference;
 use std::alloc::Global;
 
@@ -86,52 +82,16 @@ pub(crate) fn place_resolved(
     }
 }
 
-fn place_bind(
-    alloc: Global,
-    set: &Set<'_, '_>,
-    image: u32,
-    index: usize,
-    bind: &Bind<'_>,
-) -> Result<PlacedWord, Fault>
-    requires sound { IsSoundSet (set_of set.now) }
-    requires image { image < length set.now.images.now }
-    ensures found { IfOk result (λ w. w ≡ spec.placed_bind (set_of set.now) image bind.now) }
-    ensures cause { Refuses (rules.bind_fault (set_of set.now) image index bind.now) result }
-{
-    let outcome = resolve(alloc, set, image, bind.ordinal, bind.name)?;
-    place_resolved(index, bind, outcome)
-}
-
-// The bound words, or the first bind that breaks a rule.
-fn place_binds(
-    alloc: Global,
-    set: &Set<'_, '_>,
-    image: u32,
-    binds: &[Bind<'_>],
-) -> Result<Vec<PlacedWord>, Fault>
-    requires sound { IsSoundSet (set_of set.now) }
-    requires image { image < length set.now.images.now }
-    ensures found { IfOk result (λ v. v.items ≡ map (spec.placed_bind (set_of set.now) image) binds.now) }
-    ensures cause { Refuses (rules.bind_fault_from (set_of set.now) image 0 binds.now) result }
-{
-    let mut words = Vec::with_capacity(alloc, binds.len())?;
-    for (index, bind) in binds.iter().enumerate() {
-        let word = place_bind(alloc, set, image, index, bind)?;
-        words.push(word)?;
-    }
-    Ok(words)
-}
-
 // The rebases that aren't bound, behind the words that are placed before them.
-fn place_rebases<S: SegmentLookup>(
-    segments: &S,
+fn place_rebases(
+    segments: &Body<'_, '_>,
     bound: &IndexSet<u64>,
     pointers: &IndexMap<u64, u32>,
     image: u32,
     rebases: &[Location],
     words: &mut Vec<PlacedWord>,
 ) -> Result<(), NoMemory>
-    ensures { OnOk result (words.new.items ≡ words.old.items ++ spec.rebased_words image (S.all segments.now) (contains nat_eq bound.now) (get nat_eq pointers.now) rebases.now) }
+    ensures { OnOk result (words.new.items ≡ words.old.items ++ spec.rebased_words image segments.now (contains nat_eq bound.now) (get nat_eq pointers.now) rebases.now) }
 {
     for word in rebases {
         if is_free(bound, word) {
@@ -153,17 +113,17 @@ fn sort_words(words: &mut Vec<PlacedWord>) -> Result<(), NoMemory>
 
 /// Words that are bound, and behind them the rebases that aren't, in the order of their addresses; or the
 /// first rule that these rebases break.
-pub(crate) fn with_rebases<S: SegmentLookup>(
+pub(crate) fn with_rebases(
     alloc: Global,
-    segments: &S,
+    segments: &Body<'_, '_>,
     image: u32,
     binds: &[Bind<'_>],
     references: &[Reference],
     rebases: &[Location],
     placed: Vec<PlacedWord>,
 ) -> Result<Vec<PlacedWord>, Fault>
-    ensures found { IfOk result (λ v. spec.AreOrdered (placed.items ++ spec.rebased_words image (S.all segments.now) (spec.is_bound binds.now) (targets.pointer_at references.now) rebases.now) v.items) }
-    ensures cause { Refuses (rules.rebase_fault (S.all segments.now) (spec.is_bound binds.now) (targets.pointer_at references.now) rebases.now) result }
+    ensures found { IfOk result (λ v. spec.AreOrdered (placed.items ++ spec.rebased_words image segments.now (spec.is_bound binds.now) (targets.pointer_at references.now) rebases.now) v.items) }
+    ensures cause { Refuses (rules.rebase_fault segments.now (spec.is_bound binds.now) (targets.pointer_at references.now) rebases.now) result }
 {
     let mut words = placed;
     let bound = bound_addresses(alloc, binds)?;
@@ -175,35 +135,4 @@ pub(crate) fn with_rebases<S: SegmentLookup>(
     place_rebases(segments, &bound, &pointers, image, rebases, &mut words)?;
     sort_words(&mut words)?;
     Ok(words)
-}
-
-// The words of image number `image`, by its segments and what its streams spell.
-pub(crate) fn words_in(
-    alloc: Global,
-    set: &Set<'_, '_>,
-    image: u32,
-    segments: &[Segment<'_>],
-    index: &SegmentIndex,
-    streams: &ImageStreams<'_>,
-) -> Result<Vec<PlacedWord>, Fault>
-    requires sound { IsSoundSet (set_of set.now) }
-    requires image { image < length set.now.images.now }
-    requires index { Indexes segments.now index.now }
-    ensures found { IfOk result (λ v. spec.AreOrdered (spec.all_pointers (set_of set.now) image segments.now streams.now) v.items) }
-    ensures cause { Refuses (rules.word_fault (set_of set.now) image segments.now streams.now) result }
-{
-    let placed = place_binds(alloc, set, image, &streams.binds)?;
-    let lookup = Whole::new(segments, index);
-    match with_rebases(
-        alloc,
-        &lookup,
-        image,
-        &streams.binds,
-        &streams.references,
-        &streams.rebases,
-        placed,
-    ) {
-        Ok(words) => Ok(words),
-        Err(fault) => Err(fault),
-    }
 }

@@ -12,7 +12,8 @@ use Rattle.macho_image.specs.declared.place.Location.{Location}
 use Rattle.macho_image.specs.Places.{IsWord}
 use Rattle.macho_image.specs.Segments.{contains, inside, segments_in}
 use Rattle.macho_image.specs.declared.places.segment_index.Inside.{Inside}
-use Rattle.macho_image.proofs.SegmentLaws.{AreApart, contains_yes, contains_low, contains_high, inside_here}
+use Rattle.macho_image.specs.Index.{AreApart}
+use Rattle.macho_image.proofs.SegmentLaws.{contains_yes, contains_low, contains_high, inside_here}
 use Rattle.macho_image.proofs.SoundSegments.{segments_keep_apart}
 use Rattle.rebase_ops.specs.Rebases.{rebases_of}
 use Rattle.rebase_ops.proofs.RebaseLaws.{accepted_rebases}

@@ -96,7 +96,17 @@ impl SegmentIndex {
     {
         image.facts();
         are_bytes(image.header);
-        let mut entries = entries(alloc, &image.segments)?;
+        SegmentIndex::over(alloc, &image.segments)
+    }
+
+    /// The index of segments that share no address, fewer than 2^32 of them. `NoMemory` comes where memory
+    /// runs out.
+    pub fn over(alloc: Global, segments: &[Segment<'_>]) -> Result<SegmentIndex, NoMemory>
+        requires apart { spec.AreApart segments.now }
+        requires few { length segments.now < 2 ^ 32 }
+        ensures { IfOk result (spec.Indexes segments.now) }
+    {
+        let mut entries = entries(alloc, segments)?;
         entries.sort_by_key(|e| e.start)?;
         Ok(SegmentIndex { entries })
     }

@@ -3,7 +3,7 @@ use Rattle.dsc_base.specs.declared.fault.Site.{Site}
 use Rattle.dsc_base.specs.Refusals.{IsRefusal}
 use Rattle.prebind.specs.Indexed.{FrameOf, IndexOf}
 use Rattle.prebind.proofs.IndexLaws.{within_each}
-use Rattle.prebind.proofs.ImageLaws.{own_image, frame_long, body_few, ordered_words, words_fault}
+use Rattle.prebind.proofs.ImageLaws.{own_image, frame_long, body_few, body_apart, ordered_words, words_fault}
 use Rattle.prebind.proofs.place_indexed.image_words.Goals as goal
 
 pub index-linkedit-requires : goal.index-linkedit-requires
@@ -13,11 +13,26 @@ index-linkedit-requires g c =
     own_image c.requires.set c.args.links.now c.args.indexed.now c.args.image c.args.segments.now c.args.rebases.now c.args.binds.now c.args.references.now c.index-frame.result.now c.requires.are c.requires.own c.requires.within at in
     omega (arith, frame_long c.requires.set c.args.image c.args.segments.now c.index-frame.result.now own, ap (λ (f : FrameOf). length f.segments) c.frame.view_is)
 
-pub new-body-requires : goal.new-body-requires
-new-body-requires g c =
+pub over-requires-clause-apart : goal.over-requires-clause-apart
+over-requires-clause-apart g c =
+    let at = c.index-frame.ensures ∙ ap (λ (i : IndexOf). get_or i.frames c.args.image c.index-frame.result.now) c.indexed.view_is in
+    body_apart c.requires.set c.args.image c.args.segments.now c.index-frame.result.now
+    (own_image c.requires.set c.args.links.now c.args.indexed.now c.args.image c.args.segments.now c.args.rebases.now c.args.binds.now c.args.references.now c.index-frame.result.now c.requires.are c.requires.own c.requires.within at)
+
+pub over-requires-clause-few : goal.over-requires-clause-few
+over-requires-clause-few g c =
     let at = c.index-frame.ensures ∙ ap (λ (i : IndexOf). get_or i.frames c.args.image c.index-frame.result.now) c.indexed.view_is in
     body_few c.requires.set c.args.image c.args.segments.now c.index-frame.result.now
     (own_image c.requires.set c.args.links.now c.args.indexed.now c.args.image c.args.segments.now c.args.rebases.now c.args.binds.now c.args.references.now c.index-frame.result.now c.requires.are c.requires.own c.requires.within at)
+
+pub new-body-requires : goal.new-body-requires
+new-body-requires g c =
+    let at = c.index-frame.ensures ∙ ap (λ (i : IndexOf). get_or i.frames c.args.image c.index-frame.result.now) c.indexed.view_is in
+    record {
+      few = body_few c.requires.set c.args.image c.args.segments.now c.index-frame.result.now
+          (own_image c.requires.set c.args.links.now c.args.indexed.now c.args.image c.args.segments.now c.args.rebases.now c.args.binds.now c.args.references.now c.index-frame.result.now c.requires.are c.requires.own c.requires.within at);
+      indexed = c.in_ok-index.ensures;
+    }
 
 pub returns-in-Ok-clause-found : goal.returns-in-Ok-clause-found
 returns-in-Ok-clause-found g c = λ set are own.
@@ -36,8 +51,8 @@ returns-in-Ok-clause-cause g c = λ set are own.
     c.new-body.ensures (c.in_ok-placed.ensures.cause set are))
     ∙ c.in-Ok.ensures.cause
 
-pub returns-in-Err-clause-cause : goal.returns-in-Err-clause-cause
-returns-in-Err-clause-cause g c = λ set are own.
+pub returns-clause-cause : goal.returns-clause-cause
+returns-clause-cause g c = λ set are own.
     let within = within_each set c.requires.set c.args.links.now c.args.indexed.now c.args.image are c.requires.are c.requires.within in
     let at = c.index-frame.ensures ∙ ap (λ (i : IndexOf). get_or i.frames c.args.image c.index-frame.result.now) c.indexed.view_is in
     let span = c.index-linkedit.ensures ∙ ap (λ (f : FrameOf). get_or f.segments (length c.args.segments.now) c.index-linkedit.result.now) c.frame.view_is in

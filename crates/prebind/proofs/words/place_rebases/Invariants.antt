@@ -5,5 +5,5 @@ use Rattle.prebind.specs.Words.{rebased_words}
 use Rattle.prebind.proofs.words.place_rebases.Given as goal
 
 abbrev pub invariant-loop-word : goal.invariant-loop-word
-invariant-loop-word g l =
-    l.words.items ≡ l.initial.words.items ++ rebased_words l.image (g.S.SegmentLookup.all l.segments) (contains nat_eq l.bound) (get nat_eq l.pointers) (take l.word-index l.rebases)
+invariant-loop-word l =
+    l.words.items ≡ l.initial.words.items ++ rebased_words l.image l.segments (contains nat_eq l.bound) (get nat_eq l.pointers) (take l.word-index l.rebases)

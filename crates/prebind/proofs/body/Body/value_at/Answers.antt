@@ -2,7 +2,7 @@ use Rattle.std.proofs.Common.{◌∙◌, List, sym, ap}
 use Rattle.macho_image.specs.Records.{Seg}
 use Rattle.macho_image.specs.Segments.{value_of}
 use Rattle.prebind.proofs.BodyLaws.{value_in_body}
-use Rattle.prebind.proofs.segment_lookup.BodySegmentLookup.value_at.Goals as goal
+use Rattle.prebind.proofs.body.Body.value_at.Goals as goal
 
 pub returns : goal.returns
 returns c =
