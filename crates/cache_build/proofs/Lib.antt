@@ -18,6 +18,7 @@ pub mod CachedWords
 pub mod ChainedEdits
 pub mod ChainedWords
 pub mod EditedRanges
+pub mod FarWords
 pub mod FitsLaws
 pub mod FreeBits
 pub mod GatherFills
@@ -32,10 +33,13 @@ pub mod LedWords
 pub mod MappedWords
 pub mod MappingBytes
 pub mod Memberships
+pub mod MovedBinds
 pub mod MovedExports
 pub mod MovedLaws
 pub mod MovedSpots
+pub mod MovedStreams
 pub mod MovedTargets
+pub mod MovedWords
 pub mod OtherBytes
 pub mod PlacedImages
 pub mod PlanHeaders
