@@ -1,5 +1,5 @@
 -- Files that break no rule make images that can be built, up to what their words and their linkedit say.
-use Rattle.std.proofs.Common.{◌≡◌, ◌≤◌, ◌<◌, ℕ, Option, Some, None, List, [], length, get_or, All, refl, sym, ap, ◌∙◌, arith, inl, inr}
+use Rattle.std.proofs.Common.{subst, ◌≡◌, ◌≤◌, ◌<◌, ℕ, Option, Some, None, List, [], length, get_or, All, refl, sym, ap, ◌∙◌, arith, inl, inr}
 use Rattle.std.specs.Option.{option_or}
 use Rattle.std.proofs.lemmas.Bool.{cases_lt}
 use Rattle.std.proofs.lemmas.List.{get_or_default, length-map, get_or-map, get_or_past}
@@ -26,9 +26,8 @@ use Rattle.load_model.proofs.SoundSets.{unbroken_shape, each_none, sound_images}
 use Rattle.ref_rewrite.specs.Breaks.{rewrite_break}
 use Rattle.linkedit_merge.specs.Linkedit.{merge_break}
 use Rattle.cache_build.specs.Breaks.{behind_layout}
-use Rattle.cache_build.proofs.BuildableSets.{IsAccepted, IsBuildable, set_chained, set_slide, set_shares}
+use Rattle.cache_build.proofs.BuildableSets.{IsReadOf, IsAccepted, IsBuildable, set_chained, set_slide, set_shares}
 use Rattle.cache_build.proofs.ByteLaws.{segment_bytes}
-use Rattle.cache_build.proofs.MovedExports.{unnamed_none}
 
 -- files are bytes
 abbrev pub AreFiles : List (List ℕ) → Type 0
@@ -48,17 +47,17 @@ standalone files none k i lt at =
     let is : i ≡ image_of f 0 = at ∙ get_or-map (λ (g : List ℕ). image_of (dylib_of g) 0) files k [] i inside in
     ap (λ (j : Img). form_of j.header) is ∙ alone f (kind_unbroken Standalone (header_in f 0) unbroken.kind).kind
 
-unnamed : (f : List ℕ) → command_where is_dyld_info (commands_of (image_of f 0).header) ≡ None → (image_of f 0).streams.exports ≡ []
+read_of : (f : List ℕ) → IsReadOf (image_of f 0)
 unfolding image_from
-unnamed f none = unnamed_none f (header_in f 0) none
+read_of f = record { bytes = f; streams = refl; groups = refl }
 
--- an image has no exports where its header has no command that names them
-named : (files : List (List ℕ)) (k : ℕ) (i : Img) → k < length (images_of files) → i ≡ get_or (images_of files) k i → command_where is_dyld_info (commands_of i.header) ≡ None → i.streams.exports ≡ []
-named files k i lt at none =
+-- each image is read of its file
+each_read : (files : List (List ℕ)) (k : ℕ) (i : Img) → k < length (images_of files) → i ≡ get_or (images_of files) k i → IsReadOf i
+each_read files k i lt at =
     let inside : k < length files = omega (arith, lt, length-map files (λ (f : List ℕ). image_of (dylib_of f) 0)) in
     let f : List ℕ = dylib_of (get_or files k []) in
     let is : i ≡ image_of f 0 = at ∙ get_or-map (λ (g : List ℕ). image_of (dylib_of g) 0) files k [] i inside in
-    ap (λ (j : Img). j.streams.exports) is ∙ unnamed f (sym (ap (λ (j : Img). command_where is_dyld_info (commands_of j.header)) is) ∙ none)
+    subst IsReadOf (sym is) (read_of f)
 
 pub accepted_set : (files : List (List ℕ)) → length files ≤ 4096 → AreFiles files → files_break files ≡ None → layout_break (images_of files) ≡ None → IsAccepted (images_of files)
 accepted_set files few bytes none fits =
@@ -68,7 +67,7 @@ accepted_set files few bytes none fits =
       few = omega (arith, few, long);
       sound = λ k d lt. sound_images 0 files accepted.shapes k d lt;
       alone = standalone files accepted.shapes;
-      named = named files;
+      read = each_read files;
       streams = accepted.streams;
       tables = accepted.tables;
       set = sound_set (images_of files) (omega (arith, few, long)) accepted.streams accepted.linked;

@@ -7,7 +7,7 @@ use Rattle.dsc_base.specs.Edits.{put_all}
 use Rattle.dsc_base.specs.Region.{paged, padded}
 use Rattle.macho_image.specs.declared.form.Form.TheVariants.{Standalone}
 use Rattle.macho_image.specs.Records.{Seg, Img}
-use Rattle.macho_image.specs.Macho.{commands_of, command_where, is_dyld_info}
+use Rattle.macho_image.specs.Macho.{commands_of, command_where, is_dysymtab, streams_of, groups_of}
 use Rattle.macho_image.specs.Breaks.{form_of}
 use Rattle.macho_image.specs.TableRules.{table_break}
 use Rattle.macho_edit.specs.declared.spots.LinkSpots.{LinkSpots}
@@ -37,6 +37,12 @@ use Rattle.cache_build.specs.Head.{head_of}
 use Rattle.cache_build.specs.Cache.{headers_of, edited, tail_of, parts_joined}
 use Rattle.cache_build.proofs.FitsLaws.{AreSound}
 
+-- the streams and groups of an image are what the commands of its header name in the bytes of a file
+pub record IsReadOf (i : Img) : Type 0 where
+  pub bytes : List ℕ
+  pub streams : i.streams ≡ streams_of bytes (commands_of i.header)
+  pub groups : i.groups ≡ groups_of (command_where is_dysymtab (commands_of i.header))
+
 -- images that were read, linked and laid out
 pub record IsAccepted (is : List Img) : Type 0 where
   pub few : length is ≤ 4096
@@ -49,8 +55,7 @@ pub record IsAccepted (is : List Img) : Type 0 where
   pub words : AreUnbroken (place_break (image_set is)) (length is)
   pub layout : layout_break is ≡ None
   pub bytes : (k g : ℕ) (i : Img) (s : Seg) → IsSegment is k g i s → (n : ℕ) → get_or s.bytes n 0 < 256
-  -- an image has no exports where its header has no command that names them
-  pub named : (k : ℕ) (i : Img) → k < length is → i ≡ get_or is k i → command_where is_dyld_info (commands_of i.header) ≡ None → i.streams.exports ≡ []
+  pub read : (k : ℕ) (i : Img) → k < length is → i ≡ get_or is k i → IsReadOf i
 
 -- ---- what their words become
 

@@ -26,15 +26,21 @@ go_low is none k i lt at g m s below owned =
     let same : (move_at (layout_of is) k g).address ≡ (get_or (own_moves is k) g m).address = ap (λ (v : Moved). v.address) (move_is is k g i m lt at inside) in
     omega (arith, same, placed.2.address, placed.2.end, placed.2.span, paged-covers t.vmsize)
 
+-- and it can be moved
+pub own_moved : (bits : ℕ) (is : List Img) → IsBuildable bits is → HasEdits bits is → IsCache bits is → (k : ℕ) (i : Img) → k < length is → i ≡ get_or is k i → IsMoved i (own_moves is k) (own_spots bits is k) (slid_of bits is 0)
+own_moved bits is able edits cache k i lt at = record {
+  sound = subst IsSound (sym at) (able.accepted.sound k i lt);
+  moved = image_sound bits is able edits cache k i lt at;
+  one_each = length-moves-of is k i lt at;
+  low = go_low is able.accepted.layout k i lt at;
+}
+
 pub cached_images : (bits : ℕ) (is : List Img) → IsBuildable bits is → HasEdits bits is → IsCache bits is → (k : ℕ) (i : Img) → k < length is → i ≡ get_or is k i → IsCachedImage bits is k i
 cached_images bits is able edits cache k i lt at =
-    let sound : IsSound i = subst IsSound (sym at) (able.accepted.sound k i lt) in
-    let one_each : length (own_moves is k) ≡ length i.segments = length-moves-of is k i lt at in
-    let low : GoLow (own_moves is k) i.segments = go_low is able.accepted.layout k i lt at in
-    let moved : IsMoved i (own_moves is k) (own_spots bits is k) (slid_of bits is 0) = record { sound = sound; moved = image_sound bits is able edits cache k i lt at; one_each = one_each; low = low } in
+    let moved : IsMoved i (own_moves is k) (own_spots bits is k) (slid_of bits is 0) = own_moved bits is able edits cache k i lt at in
     record {
       found = image_found bits is able edits cache k i lt at;
-      shape = moved_shape i (own_moves is k) (own_spots bits is k) (slid_of bits is 0) sound one_each low;
+      shape = moved_shape i (own_moves is k) (own_spots bits is k) (slid_of bits is 0) moved.sound moved.one_each moved.low;
       trie = trie_accepted bits is able cache k i lt at;
       exports = exports_kept bits is able cache k i lt at moved;
     }

@@ -29,6 +29,7 @@ pub mod HeadLaws
 pub mod HeadRooms
 pub mod ImageWords
 pub mod JoinedEdits
+pub mod KeptStreams
 pub mod LedWords
 pub mod MappedWords
 pub mod MappingBytes

@@ -5,10 +5,10 @@ use Rattle.std.proofs.lemmas.Bool.{cases_lt}
 use Rattle.std.proofs.lemmas.List.{get_or_default, get_or-take, get_or-drop, length-take-le, length-drop, same_lists}
 use Rattle.std.proofs.lemmas.Option.{slice_get_read}
 use Rattle.dsc_base.specs.declared.fault.Span.{Span}
-use Rattle.macho_image.specs.Records.{Img}
+use Rattle.macho_image.specs.Records.{StreamBytes, Img}
 use Rattle.macho_image.specs.declared.place.Moved.{Moved}
 use Rattle.macho_image.specs.Format.{dyld_info_export_off, dyld_info_export_size}
-use Rattle.macho_image.specs.Macho.{commands_of, command_where, is_dyld_info, part_in, streams_of, image_from}
+use Rattle.macho_image.specs.Macho.{commands_of, command_where, is_dyld_info, part_in, streams_of}
 use Rattle.macho_edit.specs.MovedImage.{named_by, moved_image}
 use Rattle.macho_edit.specs.declared.spots.LinkSpots.{LinkSpots}
 use Rattle.nlist_table.specs.Symbols.{tables_of}
@@ -28,7 +28,7 @@ use Rattle.linkedit_merge.proofs.SpanLaws.{IsWithin, spots_within}
 use Rattle.linkedit_merge.proofs.TrieLaws.{moved_is_trie}
 use Rattle.cache_layout.proofs.RoomLaws.{paged-covers}
 use Rattle.load_model.specs.Corresponds.{SameExports}
-use Rattle.cache_build.proofs.BuildableSets.{IsBuildable, set_shares, set_start, set_span, slid_of}
+use Rattle.cache_build.proofs.BuildableSets.{IsReadOf, IsBuildable, set_shares, set_start, set_span, slid_of}
 use Rattle.cache_build.proofs.CacheFacts.{IsCache, moved_in}
 use Rattle.cache_build.proofs.MovedSpots.{own_moves, own_share, own_spots, share_in, share_is, spots_are}
 use Rattle.cache_build.proofs.MovedTargets.{IsMoved, same_exports, none_strays}
@@ -67,6 +67,15 @@ linkedit_long : (shares : List Share) → length (linkedit_of shares) ≡ linked
 unfolding linkedit_of linkedit_size
 linkedit_long shares = length-joined [] (parts_of shares)
 
+-- the bytes of a range of the linkedit, where the cache has it
+pub spotted_bytes : (bits : ℕ) (is : List Img) → IsCache bits is → (s : Span) → IsWithin (set_start bits is) (linkedit_size (set_shares is)) s
+    → take s.len (drop s.at (slid_of bits is 0)) ≡ bytes_in (set_start bits is) (linkedit_of (set_shares is)) s
+spotted_bytes bits is cache s within =
+    let long : length (linkedit_of (set_shares is)) ≡ linkedit_size (set_shares is) = linkedit_long (set_shares is) in
+    let whole : length (slid_of bits is 0) ≡ set_span bits is = cache.slid_long 0 in
+    let inside : IsWithin (set_start bits is) (length (linkedit_of (set_shares is))) s = subst (λ (n : ℕ). IsWithin (set_start bits is) n s) (sym long) within in
+    span_bytes (slid_of bits is 0) (linkedit_of (set_shares is)) (set_start bits is) s inside (omega (arith, long, whole, paged-covers (linkedit_size (set_shares is)))) (λ n less. cache.linkedit 0 n less)
+
 exports_span : (start : ℕ) (shares : List Share) (k : ℕ) (share : Share) → (spots_in start shares k share).exports ≡ span_of start (lens_of (parts_of shares)) (5 * k + 2)
 unfolding spots_in
 exports_span start shares k share = refl
@@ -84,13 +93,9 @@ trie_there bits is cache k i lt at =
     let b : List ℕ = slid_of bits is 0 in
     let here : get_or (set_shares is) k (own_share is k i) ≡ own_share is k i = share_is is k i (own_share is k i) lt at in
     let within : k < length (set_shares is) = share_in is k lt in
-    let long : length (linkedit_of (set_shares is)) ≡ linkedit_size (set_shares is) = linkedit_long (set_shares is) in
-    let whole : length (slid_of bits is 0) ≡ set_span bits is = cache.slid_long 0 in
     let span : (own_spots bits is k).exports ≡ (spots_in start shares k share).exports = ap (λ (s : LinkSpots). s.exports) (spots_are bits is k i lt at) in
-    let inside : IsWithin start (length (linkedit_of shares)) (spots_in start shares k share).exports =
-    subst (λ (n : ℕ). IsWithin start n (spots_in start shares k share).exports) (sym long) (spots_within start shares k share within here).exports in
     ap (λ (s : Span). take s.len (drop s.at b)) span
-    ∙ (span_bytes b (linkedit_of shares) start (spots_in start shares k share).exports inside (omega (arith, long, whole, paged-covers (linkedit_size (set_shares is)))) (λ n less. cache.linkedit 0 n less)
+    ∙ (spotted_bytes bits is cache (spots_in start shares k share).exports (spots_within start shares k share within here).exports
     ∙ (ap (λ (s : Span). bytes_in start (linkedit_of shares) s) (exports_span start shares k share)
     ∙ (own_read start shares k 2 share within here (omega arith) ∙ exports_share i (own_moves is k))))
 
@@ -124,6 +129,11 @@ by_command (Some c) i moves b s none there trie = record {
   back = ap exports_of there ∙ trie.back;
 }
 
+-- an image has no exports where no command names them
+unnamed : (i : Img) → IsReadOf i → command_where is_dyld_info (commands_of i.header) ≡ None → i.streams.exports ≡ []
+unfolding streams_of
+unnamed i read none = ap (λ (s : StreamBytes). s.exports) read.streams ∙ ap (λ (o : Option (List ℕ)). part_in read.bytes o 1 dyld_info_export_off dyld_info_export_size) none
+
 own_trie : (i : Img) → streams_break i ≡ None → trie_break i.streams.exports ≡ None
 own_trie i none = let read = streams_of_image i none in ap trie_break (sym read.exports) ∙ read.exports_accepted
 
@@ -132,7 +142,7 @@ has_trie bits is able cache k i lt at =
     let found : slice_get is k ≡ Some i = slice_get_read is (length is) k i refl lt at in
     let named = named_exports i (own_moves is k) (own_spots bits is k) (slid_of bits is 0) in
     subst (λ (l : List ℕ). HasTrie i (own_moves is k) l) (sym named)
-    (by_command (command_where is_dyld_info (commands_of i.header)) i (own_moves is k) (slid_of bits is 0) (own_spots bits is k).exports (able.accepted.named k i lt at) (trie_there bits is cache k i lt at)
+    (by_command (command_where is_dyld_info (commands_of i.header)) i (own_moves is k) (slid_of bits is 0) (own_spots bits is k).exports (unnamed i (able.accepted.read k i lt at)) (trie_there bits is cache k i lt at)
     (moved_is_trie i.segments (own_moves is k) i.streams.exports (own_trie i (able.accepted.streams k i found))))
 
 pub trie_accepted : (bits : ℕ) (is : List Img) → IsBuildable bits is → IsCache bits is → (k : ℕ) (i : Img) → k < length is → i ≡ get_or is k i → trie_break (moved_in bits is k i).streams.exports ≡ None
@@ -143,10 +153,3 @@ pub exports_kept : (bits : ℕ) (is : List Img) → IsBuildable bits is → IsCa
 exports_kept bits is able cache k i lt at moved =
     subst (λ (es : List Export). SameExports i (moved_in bits is k i) (exports_of i.streams.exports) es) (sym (has_trie bits is able cache k i lt at).back)
     (same_exports i (own_moves is k) (own_spots bits is k) (slid_of bits is 0) moved (exports_of i.streams.exports) (none_strays is k i lt at (able.accepted.exports k lt)))
-
--- ---- images that are read of files
-
--- such an image has no exports where no command names them
-pub unnamed_none : (b header : List ℕ) → command_where is_dyld_info (commands_of header) ≡ None → (image_from b header).streams.exports ≡ []
-unfolding image_from streams_of
-unnamed_none b header none = ap (λ (o : Option (List ℕ)). part_in b o 1 dyld_info_export_off dyld_info_export_size) none
