@@ -15,5 +15,6 @@ pub mod ReadLaws
 pub mod Rows
 pub mod LeadLaws
 pub mod StartLaws
+pub mod SoundTables
 pub mod SpanLaws
 pub mod TrieLaws

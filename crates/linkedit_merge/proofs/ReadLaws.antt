@@ -185,10 +185,16 @@ same_tables : (strings strings' symbols symbols' groups indirect indirect' : Lis
     → tables_from strings (nlists_of symbols) groups (indirect_of indirect) ≡ tables_from strings' (nlists_of symbols') groups (indirect_of indirect')
 same_tables strings strings' symbols symbols' groups indirect indirect' p q r = cc
 
-pub reads_back : (start : ℕ) (shares : List Share) (k : ℕ) (share : Share) (n : ℕ) → k < length shares → get_or shares k share ≡ share
-    → AreTables n share.tables → HasFields share.tables → pool_len (pool_of shares) ≤ span_limit → ReadsBack start (linkedit_of shares) share (spots_in start shares k share)
+-- the bytes of its tables
+pub record HasPieces (start : ℕ) (linkedit : List ℕ) (pool : List (List ℕ)) (share : Share) (spots : LinkSpots) : Type 0 where
+  pub strings : bytes_in start linkedit spots.strings ≡ pool_bytes pool
+  pub symbols : bytes_in start linkedit spots.symbols ≡ flat_map (symbol_bytes pool) share.tables.symbols
+  pub indirect : bytes_in start linkedit spots.indirect ≡ flat_map (little_bytes 4) share.tables.indirect
+  pub groups : spots.groups ≡ share.tables.groups
+
+pub pieces_found : (start : ℕ) (shares : List Share) (k : ℕ) (share : Share) → k < length shares → get_or shares k share ≡ share → HasPieces start (linkedit_of shares) (pool_of shares) share (spots_in start shares k share)
 unfolding spots_in
-reads_back start shares k share n lt is sound fits few =
+pieces_found start shares k share lt is =
     let lens = lens_of (parts_of shares) in
     let pool = pool_of shares in
     let zero_right : (m : ℕ) → m + 0 ≡ m = λ m. omega arith in
@@ -197,21 +203,37 @@ reads_back start shares k share n lt is sound fits few =
     let first_range : IsRange start (flat_map (symbol_bytes pool) (all_symbols shares)) (span_of start lens (5 * length shares)) =
     subst (λ (m : ℕ). IsRange start (flat_map (symbol_bytes pool) (all_symbols shares)) (span_of start lens m)) (zero_right (5 * length shares)) (shared_range start shares 0 (omega arith)) in
     record {
+      strings = shared_read start shares 2 (omega arith);
+      symbols = share_cut (symbol_bytes pool) (λ (s : Share). s.tables.symbols) 16 symbols_len start (linkedit_of shares) shares k share (span_of start lens (5 * length shares)) (λ s. refl) (λ s. refl) lt is first first_range;
+      indirect =
+          share_cut (little_bytes 4) (λ (s : Share). s.tables.indirect) 4 indirect_len start (linkedit_of shares) shares k share (span_of start lens (5 * length shares + 1)) (λ s. refl) (λ s. refl) lt is
+          (shared_read start shares 1 (omega arith)) (shared_range start shares 1 (omega arith));
+      groups = refl;
+    }
+
+-- the names of a share are in the pool
+pub share_pooled : (shares : List Share) (k : ℕ) (share : Share) → k < length shares → get_or shares k share ≡ share → All (ArePooled (pool_of shares)) share.tables.symbols
+share_pooled shares k share lt is = let all = pooled_all shares k share lt in subst (λ (s : Share). All (ArePooled (pool_of shares)) s.tables.symbols) is all
+
+pub reads_back : (start : ℕ) (shares : List Share) (k : ℕ) (share : Share) (n : ℕ) → k < length shares → get_or shares k share ≡ share
+    → AreTables n share.tables → HasFields share.tables → pool_len (pool_of shares) ≤ span_limit → ReadsBack start (linkedit_of shares) share (spots_in start shares k share)
+unfolding spots_in
+reads_back start shares k share n lt is sound fits few =
+    let lens = lens_of (parts_of shares) in
+    let pool = pool_of shares in
+    let zero_right : (m : ℕ) → m + 0 ≡ m = λ m. omega arith in
+    let found = pieces_found start shares k share lt is in
+    record {
       bind = ap (λ (m : ℕ). bytes_in start (linkedit_of shares) (span_of start lens m)) (sym (zero_right (5 * k))) ∙ own_read start shares k 0 share lt is (omega arith);
       lazy = own_read start shares k 1 share lt is (omega arith);
       exports = own_read start shares k 2 share lt is (omega arith);
       function_starts = own_read start shares k 3 share lt is (omega arith);
       data_in_code = own_read start shares k 4 share lt is (omega arith);
       tables =
-          same_tables (bytes_in start (linkedit_of shares) (span_of start lens (5 * length shares + 2))) (pool_bytes pool)
-          (bytes_in start (linkedit_of shares) (within (span_of start lens (5 * length shares)) (sum_by symbols_len (take k shares)) (symbols_len share))) (flat_map (symbol_bytes pool) share.tables.symbols)
-          share.tables.groups
-          (bytes_in start (linkedit_of shares) (within (span_of start lens (5 * length shares + 1)) (sum_by indirect_len (take k shares)) (indirect_len share))) (flat_map (little_bytes 4) share.tables.indirect)
-          (shared_read start shares 2 (omega arith))
-          (share_cut (symbol_bytes pool) (λ (s : Share). s.tables.symbols) 16 symbols_len start (linkedit_of shares) shares k share (span_of start lens (5 * length shares)) (λ s. refl) (λ s. refl) lt is first first_range)
-          (share_cut (little_bytes 4) (λ (s : Share). s.tables.indirect) 4 indirect_len start (linkedit_of shares) shares k share (span_of start lens (5 * length shares + 1)) (λ s. refl) (λ s. refl) lt is
-          (shared_read start shares 1 (omega arith)) (shared_range start shares 1 (omega arith)))
-          ∙ tables_back pool n share.tables few sound fits (let all = pooled_all shares k share lt in subst (λ (s : Share). All (ArePooled pool) s.tables.symbols) is all);
+          same_tables (bytes_in start (linkedit_of shares) (spots_in start shares k share).strings) (pool_bytes pool) (bytes_in start (linkedit_of shares) (spots_in start shares k share).symbols)
+          (flat_map (symbol_bytes pool) share.tables.symbols) share.tables.groups (bytes_in start (linkedit_of shares) (spots_in start shares k share).indirect) (flat_map (little_bytes 4) share.tables.indirect)
+          found.strings found.symbols found.indirect
+          ∙ tables_back pool n share.tables few sound fits (share_pooled shares k share lt is);
     }
 
 -- ---- tables with moved values

@@ -123,7 +123,7 @@ entries_fit pool (s ∷ ss) few h =
     (record { strx = omega (arith, index_below pool s.name); desc = first.desc; value = value_fits pool s.alias s.value few first.value })
     (entries_fit pool ss few (All-tail FitsSymbol s ss h))
 
-entries_back : (pool : List (List ℕ)) (ss : List Sym) → pool_len pool ≤ span_limit → All FitsSymbol ss → nlists_of (flat_map (symbol_bytes pool) ss) ≡ map (entry_of pool) ss
+pub entries_back : (pool : List (List ℕ)) (ss : List Sym) → pool_len pool ≤ span_limit → All FitsSymbol ss → nlists_of (flat_map (symbol_bytes pool) ss) ≡ map (entry_of pool) ss
 entries_back pool ss few h =
     ap (λ (l : List ℕ). nlists_of l) (sym (flat_map-map nlist_bytes (entry_of pool) ss)) ∙ nlists_back (map (entry_of pool) ss) (entries_fit pool ss few h)
 
