@@ -22,6 +22,7 @@ use Rattle.prebind.specs.Agree.{HaveExportsInside}
 use Rattle.prebind.proofs.SetLaws.{sound_set}
 use Rattle.load_model.specs.Phases.{dylib_of, images_of, shape_break, files_break}
 use Rattle.load_model.proofs.AcceptedFiles.{AreAccepted, accepted_files}
+use Rattle.load_model.proofs.SliceLaws.{dylib_bytes}
 use Rattle.load_model.proofs.SoundSets.{unbroken_shape, each_none, sound_images}
 use Rattle.ref_rewrite.specs.Breaks.{rewrite_break}
 use Rattle.linkedit_merge.specs.Linkedit.{merge_break}
@@ -47,17 +48,17 @@ standalone files none k i lt at =
     let is : i ≡ image_of f 0 = at ∙ get_or-map (λ (g : List ℕ). image_of (dylib_of g) 0) files k [] i inside in
     ap (λ (j : Img). form_of j.header) is ∙ alone f (kind_unbroken Standalone (header_in f 0) unbroken.kind).kind
 
-read_of : (f : List ℕ) → IsReadOf (image_of f 0)
+read_of : (f : List ℕ) → All (λ (b : ℕ). b < 256) f → IsReadOf (image_of f 0)
 unfolding image_from
-read_of f = record { bytes = f; streams = refl; groups = refl }
+read_of f plain = record { bytes = f; plain = plain; streams = refl; groups = refl }
 
 -- each image is read of its file
-each_read : (files : List (List ℕ)) (k : ℕ) (i : Img) → k < length (images_of files) → i ≡ get_or (images_of files) k i → IsReadOf i
-each_read files k i lt at =
+each_read : (files : List (List ℕ)) → AreFiles files → (k : ℕ) (i : Img) → k < length (images_of files) → i ≡ get_or (images_of files) k i → IsReadOf i
+each_read files all k i lt at =
     let inside : k < length files = omega (arith, lt, length-map files (λ (f : List ℕ). image_of (dylib_of f) 0)) in
     let f : List ℕ = dylib_of (get_or files k []) in
     let is : i ≡ image_of f 0 = at ∙ get_or-map (λ (g : List ℕ). image_of (dylib_of g) 0) files k [] i inside in
-    subst IsReadOf (sym is) (read_of f)
+    subst IsReadOf (sym is) (read_of f (dylib_bytes (get_or files k []) (all k [] inside)))
 
 pub accepted_set : (files : List (List ℕ)) → length files ≤ 4096 → AreFiles files → files_break files ≡ None → layout_break (images_of files) ≡ None → IsAccepted (images_of files)
 accepted_set files few bytes none fits =
@@ -67,7 +68,7 @@ accepted_set files few bytes none fits =
       few = omega (arith, few, long);
       sound = λ k d lt. sound_images 0 files accepted.shapes k d lt;
       alone = standalone files accepted.shapes;
-      read = each_read files;
+      read = each_read files bytes;
       streams = accepted.streams;
       tables = accepted.tables;
       set = sound_set (images_of files) (omega (arith, few, long)) accepted.streams accepted.linked;

@@ -1,5 +1,5 @@
 -- Sets of images that break no rule, and the parts of their caches.
-use Rattle.std.proofs.Common.{◌≡◌, ◌≤◌, ◌<◌, ℕ, ◌+◌, ◌%◌, ◌^◌, Some, None, List, [], length, map, get_or}
+use Rattle.std.proofs.Common.{◌≡◌, ◌≤◌, ◌<◌, ℕ, ◌+◌, ◌%◌, ◌^◌, Some, None, List, [], length, map, get_or, All}
 use Rattle.std.specs.Prelude.{slice_get, nat_eq, if◌then◌else◌}
 use Rattle.std.specs.List.{list_any}
 use Rattle.dsc_base.specs.declared.edits.Edit.{Edit}
@@ -40,6 +40,7 @@ use Rattle.cache_build.proofs.FitsLaws.{AreSound}
 -- the streams and groups of an image are what the commands of its header name in the bytes of a file
 pub record IsReadOf (i : Img) : Type 0 where
   pub bytes : List ℕ
+  pub plain : All (λ (b : ℕ). b < 256) bytes
   pub streams : i.streams ≡ streams_of bytes (commands_of i.header)
   pub groups : i.groups ≡ groups_of (command_where is_dysymtab (commands_of i.header))
 

@@ -11,7 +11,7 @@ use Rattle.load_model.specs.Phases.{contents, dylib_of, images_of}
 use Rattle.load_model.proofs.SliceLaws.{dylib_bytes}
 
 -- what lies behind a list's end counts as 0
-read_byte : (bytes : List ℕ) → All (λ b. b < 256) bytes → (n : ℕ) → get_or bytes n 0 < 256
+pub read_byte : (bytes : List ℕ) → All (λ b. b < 256) bytes → (n : ℕ) → get_or bytes n 0 < 256
 read_byte [] all n = omega arith
 read_byte (b ∷ bytes) all zero = All-head (λ (x : ℕ). x < 256) b bytes all
 read_byte (b ∷ bytes) all (suc n) = read_byte bytes (All-tail (λ (x : ℕ). x < 256) b bytes all) n

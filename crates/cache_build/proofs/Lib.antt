@@ -30,6 +30,7 @@ pub mod HeadRooms
 pub mod ImageWords
 pub mod JoinedEdits
 pub mod KeptStreams
+pub mod KeptTables
 pub mod LedWords
 pub mod MappedWords
 pub mod MappingBytes

@@ -4,7 +4,7 @@ use Rattle.std.specs.Prelude.{position, option_map, slice_get, slice_index, is_n
 use Rattle.std.specs.List.{flat_map}
 use Rattle.std.proofs.lemmas.Bool.Decides.{nat_tests}
 use Rattle.std.proofs.lemmas.List.{length-map}
-use Rattle.std.proofs.lemmas.List.Elements.{All-head, All-tail}
+use Rattle.std.proofs.lemmas.List.Elements.{All-nil, All-head, All-tail}
 use Rattle.std.proofs.lemmas.Option.{slice_get-map, slice_get-get_or}
 use Rattle.dsc_base.specs.Limits.{span_limit}
 use Rattle.dsc_base.specs.Numbers.{little_bytes}
@@ -12,16 +12,14 @@ use Rattle.dsc_base.specs.Refusals.{broken, least}
 use Rattle.dsc_base.specs.declared.rule.Rule.TheVariants.{TableNameOutside, TableBadSection, TableIndexOutside}
 use Rattle.macho_image.specs.Nlists.{Nlist, is_stab, is_kept, is_in_section, is_alias, name_at, is_flag, nlists_of, indirect_of}
 use Rattle.macho_image.specs.TableRules.{lacks_name, lacks_section, ends_behind, breaks_groups, is_symbol, lacks_symbol, nearer, tables_break}
-use Rattle.macho_edit.specs.declared.spots.LinkSpots.{LinkSpots}
 use Rattle.nlist_table.specs.Symbols.{Sym, Tabs}
 use Rattle.nlist_table.specs.Kept.{HasAlias, HasSection, IsSymbol, AreTables}
-use Rattle.nlist_table.proofs.PieceLaws.{indirect_back}
 use Rattle.dep_closure.proofs.PositionLaws.{position-cons}
 use Rattle.linkedit_merge.specs.Indices.{pool_len}
 use Rattle.linkedit_merge.specs.Linkedit.{entry_value, entry_of, symbol_bytes, pool_of, linkedit_of, spots_in}
 use Rattle.linkedit_merge.specs.Parts.{bytes_in}
 use Rattle.linkedit_merge.specs.Pool.{is_pooled, pool_bytes, index_in}
-use Rattle.linkedit_merge.specs.ReadBack.{HasFields}
+use Rattle.linkedit_merge.specs.ReadBack.{FitsSymbol}
 use Rattle.linkedit_merge.specs.Shares.{Share}
 use Rattle.linkedit_merge.proofs.NameLaws.{read_name}
 use Rattle.linkedit_merge.proofs.ReadLaws.{HasPieces, pieces_found, share_pooled}
@@ -114,17 +112,23 @@ entries_unbroken pool n t are pooled =
     let groups = groups_found (length (map (entry_of pool) t.symbols)) (length t.symbols) t.groups (length-map t.symbols (entry_of pool)) are.groups in
     (λ i. nearer (broken TableNameOutside (names i)) (nearer (broken TableBadSection (sections i)) (broken TableIndexOutside (least (groups i) (indices i)))))
 
-pub tables_unbroken : (start : ℕ) (shares : List Share) (k : ℕ) (share : Share) (n : ℕ) → k < length shares → get_or shares k share ≡ share → AreTables n share.tables → HasFields share.tables → pool_len (pool_of shares) ≤ span_limit
-    → (let spots : LinkSpots = spots_in start shares k share in
-    tables_break (bytes_in start (linkedit_of shares) spots.strings) n (nlists_of (bytes_in start (linkedit_of shares) spots.symbols)) spots.groups (indirect_of (bytes_in start (linkedit_of shares) spots.indirect))) ≡ None
-tables_unbroken start shares k share n lt is are fits few =
+-- by the names and the entries that it finds, whatever indices and groups there are of them
+pub tables_keep : (start : ℕ) (shares : List Share) (k : ℕ) (share : Share) (n : ℕ) (groups indirect : List ℕ) → k < length shares → get_or shares k share ≡ share
+    → AreTables n (record { symbols = share.tables.symbols; indirect = indirect; groups = groups }) → All FitsSymbol share.tables.symbols → pool_len (pool_of shares) ≤ span_limit
+    → tables_break (bytes_in start (linkedit_of shares) (spots_in start shares k share).strings) n (nlists_of (bytes_in start (linkedit_of shares) (spots_in start shares k share).symbols)) groups indirect ≡ None
+tables_keep start shares k share n groups indirect lt is are fits few =
     let pool = pool_of shares in
     let found = pieces_found start shares k share lt is in
     let entries : nlists_of (bytes_in start (linkedit_of shares) (spots_in start shares k share).symbols) ≡ map (entry_of pool) share.tables.symbols =
-    ap (λ (l : List ℕ). nlists_of l) found.symbols ∙ entries_back pool share.tables.symbols few fits.symbols in
-    let indices : indirect_of (bytes_in start (linkedit_of shares) (spots_in start shares k share).indirect) ≡ share.tables.indirect = ap (λ (l : List ℕ). indirect_of l) found.indirect ∙ indirect_back share.tables.indirect fits.indirect in
-    (λ i. tables_break (found.strings i) n (entries i) (found.groups i) (indices i)) ∙ entries_unbroken pool n share.tables are (share_pooled shares k share lt is)
+    ap (λ (l : List ℕ). nlists_of l) found.symbols ∙ entries_back pool share.tables.symbols few fits in
+    (λ i. tables_break (found.strings i) n (entries i) groups indirect)
+    ∙ entries_unbroken pool n (record { symbols = share.tables.symbols; indirect = indirect; groups = groups }) are (share_pooled shares k share lt is)
 
--- no tables break no rule, and neither do flags and no groups without symbols
-pub empty_unbroken : (n : ℕ) (groups : List ℕ) (indirect : List ℕ) → breaks_groups 0 groups ≡ None → position (lacks_symbol []) indirect ≡ None → tables_break [] n [] groups indirect ≡ None
-empty_unbroken n groups indirect first second = (λ i. nearer (broken TableNameOutside None) (nearer (broken TableBadSection None) (broken TableIndexOutside (least (first i) (second i)))))
+-- and where there are no symbols
+pub none_keep : (n : ℕ) (t : Tabs) → t.symbols ≡ [] → AreTables n t → tables_break [] n [] t.groups t.indirect ≡ None
+none_keep n t none are =
+    let many : 0 ≡ length t.symbols = sym (ap (λ (ss : List Sym). length ss) none) in
+    let groups = groups_found 0 (length t.symbols) t.groups many are.groups in
+    let within : All (λ (index : ℕ). is_flag index ≡ false → index < 0) t.indirect = λ k d lt flag. let inside = are.indirect k d lt flag in omega (arith, inside, many) in
+    let indices = indices_found [] n [] t.indirect (All-nil (IsSymbol n)) within in
+    (λ i. nearer (broken TableNameOutside None) (nearer (broken TableBadSection None) (broken TableIndexOutside (least (groups i) (indices i)))))
