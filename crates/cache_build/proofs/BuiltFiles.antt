@@ -28,6 +28,9 @@ use Rattle.cache_build.proofs.CachedSets.{cached_images}
 use Rattle.cache_build.proofs.MappedWords.{IsCachedSet, fixed_ends}
 use Rattle.cache_build.proofs.CacheTheorem.{always}
 use Rattle.cache_build.proofs.SoundCaches.{sound_cache}
+use Rattle.cache_build.proofs.SoundImages.{images_sound}
+use Rattle.cache_check.specs.Images.{images_finding}
+use Rattle.cache_check.specs.Views.{view_of}
 
 neither : (a b : Option Break) → option_or a b ≡ None → (a ≡ None) × (b ≡ None)
 neither None b none = (refl, none)
@@ -92,3 +95,8 @@ pub files_sound : (bits : ℕ) (files : List (Vec ℕ Global)) → (1 ≤ bits) 
     → IsSoundCache (built bits (contents files))
 files_sound bits files fit few bytes none =
     sound_cache bits (images_of (contents files)) (cached_set bits (images_of (contents files)) (buildable bits (contents files) fit.0 fit.1 (few_of files few.1) bytes none))
+
+pub files_images : (bits : ℕ) (files : List (Vec ℕ Global)) → (1 ≤ bits) × (bits ≤ 16) → (1 ≤ length files) × (length files ≤ 4096) → AreFiles (contents files) → set_break bits (contents files) ≡ None
+    → images_finding (view_of (built bits (contents files))) ≡ None
+files_images bits files fit few bytes none =
+    images_sound bits (images_of (contents files)) (cached_set bits (images_of (contents files)) (buildable bits (contents files) fit.0 fit.1 (few_of files few.1) bytes none))

@@ -56,6 +56,7 @@ pub mod SlidCaches
 pub mod SlideSizes
 pub mod SoundCaches
 pub mod SoundIdentifiers
+pub mod SoundImages
 pub mod TargetPlaces
 pub mod ToldCaches
 pub mod WholeCaches

@@ -1,5 +1,7 @@
 // Building a cache of a set of dylibs.
 ghost use Rattle.std.specs.Prelude.{◌≡◌, ◌≤◌, ◌<◌, ℕ, None, length, map, All, IfOk, IfErr, OnOk};
+ghost use Rattle.cache_check.specs.Images.{images_finding};
+ghost use Rattle.cache_check.specs.Views.{view_of};
 ghost use Rattle.cache_build.specs.Breaks.{set_break};
 ghost use Rattle.cache_header.specs.Reading.{span};
 ghost use Rattle.load_model.specs.Phases.{contents};
@@ -100,6 +102,7 @@ pub fn build<R: Threads + Sync, G: Gate + Sync>(
     ensures corresponds { set_break options.now.delta_bits (contents files.now) ≡ None → CorrespondsAlways (contents files.now) (built options.now.delta_bits (contents files.now)) }
     ensures span { set_break options.now.delta_bits (contents files.now) ≡ None → span (built options.now.delta_bits (contents files.now)) ≡ length (built options.now.delta_bits (contents files.now)) }
     ensures sound { set_break options.now.delta_bits (contents files.now) ≡ None → IsSoundCache (built options.now.delta_bits (contents files.now)) }
+    ensures images { set_break options.now.delta_bits (contents files.now) ≡ None → images_finding (view_of (built options.now.delta_bits (contents files.now))) ≡ None }
     ensures cause { IfErr result (IsSetRefusal (set_break options.now.delta_bits (contents files.now))) }
 {
     files_are_bytes(files);

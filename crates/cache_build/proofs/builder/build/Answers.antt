@@ -2,7 +2,7 @@ use Rattle.std.proofs.Common.{◌∙◌}
 use Rattle.load_model.specs.Phases.{contents}
 use Rattle.cache_build.specs.Breaks.{set_break}
 use Rattle.cache_build.proofs.BuildLaws.{handed_set}
-use Rattle.cache_build.proofs.BuiltFiles.{files_correspond, files_sound, files_span}
+use Rattle.cache_build.proofs.BuiltFiles.{files_correspond, files_images, files_sound, files_span}
 use Rattle.cache_build.proofs.builder.build.Goals as goal
 
 pub returns-in_err-layout-clause-cause : goal.returns-in_err-layout-clause-cause
@@ -38,3 +38,12 @@ returns-in_err-cache-clause-sound g c = files_sound c.args.options.now.delta_bit
 
 pub returns-clause-sound : goal.returns-clause-sound
 returns-clause-sound g c = files_sound c.args.options.now.delta_bits c.args.files.now c.requires.bits c.requires.few c.files_are_bytes.ensures
+
+pub returns-in_err-layout-clause-images : goal.returns-in_err-layout-clause-images
+returns-in_err-layout-clause-images g c = files_images c.args.options.now.delta_bits c.args.files.now c.requires.bits c.requires.few c.files_are_bytes.ensures
+
+pub returns-in_err-cache-clause-images : goal.returns-in_err-cache-clause-images
+returns-in_err-cache-clause-images g c = files_images c.args.options.now.delta_bits c.args.files.now c.requires.bits c.requires.few c.files_are_bytes.ensures
+
+pub returns-clause-images : goal.returns-clause-images
+returns-clause-images g c = files_images c.args.options.now.delta_bits c.args.files.now c.requires.bits c.requires.few c.files_are_bytes.ensures
