@@ -1,0 +1,4 @@
+pub mod ExtractOf
+pub mod Placing
+pub mod Reading
+pub mod Vetting

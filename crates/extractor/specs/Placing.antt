@@ -1,0 +1,60 @@
+-- Where the chain words of a cache lie: in which image, and in which segment and section of it.
+use Rattle.std.specs.Prelude.{ℕ, ◌+◌, ◌-◌, Bool, ◌&&◌, ◌||◌, not, nat_eq, List, [], ◌∷◌, map, Option, Some, None, option_map, unwrap_or, slice_get, if◌then◌else◌}
+use Rattle.std.specs.List.{list_any}
+use Rattle.macho_image.specs.Records.{Seg, Img}
+use Rattle.macho_image.specs.declared.place.Location.{Location}
+use Rattle.macho_image.specs.Order.{addresses_of, is_near}
+use Rattle.macho_image.specs.Places.{section_at}
+use Rattle.macho_image.specs.Segments.{contains}
+use Rattle.bind_ops.specs.Records.{BoundWord}
+use Rattle.bind_ops.specs.Binds.{places_of}
+use Rattle.slide_chain.specs.declared.words.ChainWord.{ChainWord}
+use Rattle.cache_check.specs.Shape.{data_mapping}
+use Rattle.cache_check.specs.Views.{View}
+
+-- the address at slide 0 of a chain word, whose offset counts from the start of the data
+abbrev pub data_start : View → ℕ
+data_start v = (data_mapping v.head.mappings).address
+
+abbrev pub address_of : View → ChainWord → ℕ
+address_of v w = data_start v + w.offset
+
+-- a segment of data, which may be read and written, has an address
+abbrev pub has_data : ℕ → Seg → Bool
+has_data address s = nat_eq s.initprot 3 && contains s address
+
+-- the segment of data in which an address lies, by the numbers of its image and of the segment in it
+pub record Home : Type 0 where
+  pub image : ℕ
+  pub segment : ℕ
+
+abbrev pub home_in : ℕ → ℕ → List Seg → ℕ → Option Home
+home_in k g [] address = None
+home_in k g (s ∷ ss) address = if has_data address s then Some (record { image = k; segment = g }) else home_in k (g + 1) ss address
+
+-- the first of an option and what stands behind it
+abbrev pub or_else : Option Home → Option Home → Option Home
+or_else None other = other
+or_else (Some h) other = Some h
+
+abbrev pub home_from : ℕ → List Img → ℕ → Option Home
+home_from k [] address = None
+home_from k (i ∷ is) address = or_else (home_in k 0 i.segments address) (home_from (k + 1) is address)
+
+unfoldable pub home_of : List Img → ℕ → Option Home
+home_of images address = home_from 0 images address
+
+-- ---- binds by their addresses
+
+abbrev pub bound_addresses : List BoundWord → List ℕ
+bound_addresses binds = addresses_of (places_of binds)
+
+-- a bind is at an address; or it shares a byte with the 8 bytes there without being at it
+abbrev pub is_bound : List ℕ → ℕ → Bool
+is_bound binds address = list_any (nat_eq address) binds
+
+abbrev pub clashes : ℕ → ℕ → Bool
+clashes address bind = is_near bind address && not (nat_eq bind address)
+
+abbrev pub is_crossed : List ℕ → ℕ → Bool
+is_crossed binds address = list_any (clashes address) binds

@@ -1,0 +1,162 @@
+-- What may be wrong with a cache whose images keep the rules by themselves: how they are linked, where chain words lie and where words lead.
+use Rattle.std.specs.Prelude.{ℕ, ◌+◌, Bool, true, false, not, ◌&&◌, ◌||◌, nat_eq, nat_le, nat_lt, is_none, if◌then◌else◌, List, [], ◌∷◌, length, map, Option, Some, None, option_map, slice_get, slice_index_or}
+use Rattle.std.specs.List.{list_any}
+use Rattle.std.specs.Option.{option_or}
+use Rattle.dsc_base.specs.Refusals.{first_break, in_image}
+use Rattle.dsc_base.specs.RuleNames.{number_of}
+use Rattle.dsc_base.specs.declared.fault.Break.{Break}
+use Rattle.dsc_base.specs.declared.fault.Finding.{Finding}
+use Rattle.dsc_base.specs.declared.finding_kind.FindingKind.{FindingKind}
+use Rattle.dsc_base.specs.declared.finding_kind.FindingKind.TheVariants.{LinkBroken, ChainOutside, PointerNotSymbol, ForeignPointer, ExtractTooLarge}
+use Rattle.macho_image.specs.Records.{Seg, Img}
+use Rattle.macho_image.specs.Rules.{is_linkedit_segment}
+use Rattle.macho_image.specs.Places.{wrap, section_at}
+use Rattle.macho_image.specs.Segments.{start_of, segments_at, value_of}
+use Rattle.macho_image.specs.declared.place.Location.{Location}
+use Rattle.bind_ops.specs.Records.{BoundWord}
+use Rattle.dep_closure.specs.Linked.{links_of}
+use Rattle.dep_closure.specs.Breaks.{link_break}
+use Rattle.prebind.specs.declared.resolved.WordTarget.{WordTarget}
+use Rattle.prebind.specs.declared.resolved.WordTarget.TheVariants.{Place, Constant}
+use Rattle.prebind.specs.Sets.{StreamLists, ImageSet, all_binds}
+use Rattle.prebind.specs.Places.{export_break}
+use Rattle.prebind.specs.Targets.{bound_target, outcome_of}
+use Rattle.prebind.specs.Words.{streams_at}
+use Rattle.prebind.specs.WordRules.{symbol_break}
+use Rattle.slide_chain.specs.declared.words.ChainWord.{ChainWord}
+use Rattle.cache_header.specs.Findings.{finding}
+use Rattle.cache_header.specs.Records.{Entry}
+use Rattle.load_model.specs.Phases.{first_of}
+use Rattle.load_model.specs.Sums.{count_in, name_bytes, sums_break}
+use Rattle.cache_check.specs.Images.{images_of, images_finding, each_of, header_place}
+use Rattle.cache_check.specs.Views.{View}
+use Rattle.extractor.specs.Placing.{Home, data_start, address_of, home_of, bound_addresses, is_bound, is_crossed}
+use Rattle.extractor.specs.ExtractOf.{linkedit_limit, size_in}
+
+-- ---- the set that cached images make: binds and exports alone, since the cache has done the rebases and keeps no references
+
+abbrev pub cached_lists : Img → StreamLists
+cached_lists i = record { rebases = []; binds = all_binds i; references = []; exports = i.streams.exports }
+
+unfoldable pub cached_set : List Img → ImageSet
+cached_set images = record { images = images; streams = map cached_lists images; links = links_of images }
+
+-- ---- `LinkBroken`: rules 119 to 134, by phase
+
+-- rule 119 of the images from number k on, behind so many records and names of so many bytes
+unfoldable pub sums_from : ℕ → ℕ → ℕ → List Img → Option Break
+sums_from k records names [] = None
+sums_from k records names (i ∷ is) =
+    let records = records + count_in (cached_lists i) in
+    let names = names + name_bytes i in
+    option_or (option_map (in_image k) (sums_break records names)) (sums_from (k + 1) records names is)
+
+abbrev pub symbol_break_in : ImageSet → ℕ → Option Break
+symbol_break_in set k = option_map (in_image k) (symbol_break set k)
+
+unfoldable pub set_break : List Img → Option Break
+set_break images =
+    let set = cached_set images in
+    first_break (sums_from 0 0 0 images ∷ link_break images ∷ first_of (export_break set) (length images) ∷ first_of (symbol_break_in set) (length images) ∷ [])
+
+-- a rule that an image of the set breaks has the rule's number for its place
+abbrev pub break_finding : Break → Finding
+break_finding b = finding LinkBroken b.image (number_of b.rule)
+
+unfoldable pub link_finding : List Img → Option Finding
+link_finding images = option_map break_finding (set_break images)
+
+-- ---- findings of chain words, which belong to the image in whose data they begin, and to image 0 where there is none
+
+-- of findings in the order of their places, the first of the least image
+abbrev pub earlier : Finding → Option Finding → Finding
+earlier f None = f
+earlier f (Some g) = if nat_lt g.image f.image then g else f
+
+unfoldable pub by_image : List (Option Finding) → Option Finding
+by_image [] = None
+by_image (None ∷ fs) = by_image fs
+by_image (Some f ∷ fs) = Some (earlier f (by_image fs))
+
+-- `ChainOutside`: a chain word isn't wholly in one section of a segment of data with a number up to 15, crosses a bind, or its image has no dyld info
+abbrev pub is_outside : Img → List ℕ → ℕ → ℕ → Bool
+is_outside i binds g address = nat_lt 15 g || (not i.has_dyld_info || (is_none (section_at i.sections g address) || is_crossed binds address))
+
+abbrev pub outside_in : List BoundWord → Option Img → ℕ → ℕ → Bool
+outside_in binds None g address = true
+outside_in binds (Some i) g address = is_outside i (bound_addresses binds) g address
+
+abbrev pub outside_at : ImageSet → ChainWord → ℕ → Option Home → Option Finding
+outside_at set w address None = Some (finding ChainOutside 0 w.offset)
+outside_at set w address (Some h) =
+    if outside_in (streams_at set h.image).binds (slice_get set.images h.image) h.segment address then Some (finding ChainOutside h.image w.offset) else None
+
+abbrev pub outside_of : View → ImageSet → ChainWord → Option Finding
+outside_of v set w = outside_at set w (address_of v w) (home_of set.images (address_of v w))
+
+unfoldable pub chain_finding : View → ImageSet → Option Finding
+chain_finding v set = by_image (map (outside_of v set) v.words)
+
+-- ---- `PointerNotSymbol`: what the bound words have at slide 0
+
+abbrev pub is_chained : View → ℕ → Bool
+is_chained v address = list_any (λ (w : ChainWord). nat_eq address (address_of v w)) v.words
+
+-- where a segment of an image of the set starts
+abbrev pub start_at : ImageSet → ℕ → ℕ → ℕ
+start_at set k g = start_of (slice_get (segments_at set.images k) g)
+
+-- a number and whether it slides are those of a target: the address of a place slides, and a constant doesn't
+abbrev pub is_number_of : ImageSet → Bool → ℕ → WordTarget → Bool
+is_number_of set slides number (Place k g distance) = slides && nat_eq number (wrap (start_at set k g + distance))
+is_number_of set slides number (Constant c) = not slides && nat_eq number c
+
+abbrev pub is_set : View → ImageSet → ℕ → BoundWord → Bool
+is_set v set k b = is_number_of set (is_chained v b.at.address) (value_of (segments_at set.images k) b.at) (bound_target b.addend (outcome_of set k b))
+
+abbrev pub bind_finding_from : View → ImageSet → ℕ → ℕ → List BoundWord → Option Finding
+bind_finding_from v set k j [] = None
+bind_finding_from v set k j (b ∷ bs) = if is_set v set k b then bind_finding_from v set k (j + 1) bs else Some (finding PointerNotSymbol k j)
+
+abbrev pub pointer_in : View → ImageSet → ℕ → StreamLists → Option Finding
+pointer_in v set k s = bind_finding_from v set k 0 s.binds
+
+unfoldable pub pointer_finding : View → ImageSet → Option Finding
+pointer_finding v set = each_of (pointer_in v set) 0 set.streams
+
+-- ---- `ForeignPointer`: a chain word that isn't bound leads out of its own image
+
+-- a value is from the start to the end of a segment other than `__LINKEDIT`
+abbrev pub reaches : ℕ → Seg → Bool
+reaches value s = not (is_linkedit_segment s) && (nat_le s.vmaddr value && nat_le value (s.vmaddr + s.vmsize))
+
+abbrev pub is_foreign : List Seg → List ℕ → ℕ → ℕ → Bool
+is_foreign segments binds address value = not (is_bound binds address) && not (list_any (reaches value) segments)
+
+abbrev pub foreign_at : ImageSet → ChainWord → ℕ → Option Home → Option Finding
+foreign_at set w address None = None
+foreign_at set w address (Some h) =
+    if is_foreign (segments_at set.images h.image) (bound_addresses (streams_at set h.image).binds) address w.value then Some (finding ForeignPointer h.image w.offset) else None
+
+abbrev pub foreign_of : View → ImageSet → ChainWord → Option Finding
+foreign_of v set w = foreign_at set w (address_of v w) (home_of set.images (address_of v w))
+
+unfoldable pub foreign_finding : View → ImageSet → Option Finding
+foreign_finding v set = by_image (map (foreign_of v set) v.words)
+
+-- ---- `ExtractTooLarge`: the linkedit of the file that is made of an image
+
+abbrev pub large_finding : View → ℕ → Entry → Option Finding
+large_finding v k e = if nat_lt linkedit_limit (size_in v (images_of v) k (slice_get (images_of v) k)) then Some (finding ExtractTooLarge k (header_place e)) else None
+
+unfoldable pub size_finding : View → Option Finding
+size_finding v = each_of (large_finding v) 0 v.head.images
+
+-- ---- all of them, in their order
+
+unfoldable pub vet_finding : View → Option Finding
+vet_finding v =
+    let images = images_of v in
+    let set = cached_set images in
+    first_break (images_finding v ∷ link_finding images ∷ chain_finding v set ∷ pointer_finding v set ∷ foreign_finding v set
+    ∷ size_finding v ∷ [])

@@ -1,0 +1,5 @@
+//! Dylibs taken out of a shared cache: a cache is vetted whole, and each of its images is then made a file of
+//! its own, after `mach-o/loader.h` of Apple's published sources.
+#![tactic(auto)]
+
+mod links;
