@@ -11,14 +11,16 @@ use Rattle.macho_edit.specs.declared.spots.LinkSpots.{LinkSpots}
 use Rattle.macho_edit.specs.Cached.{standalone_bytes}
 use Rattle.rebase_ops.specs.Writing.{rebase_bytes}
 use Rattle.nlist_table.specs.Symbols.{tables_of}
+use Rattle.bind_ops.specs.Records.{BoundWord}
 use Rattle.prebind.specs.Sets.{all_binds}
+use Rattle.prebind.specs.Words.{is_bound}
 use Rattle.linkedit_merge.specs.Parts.{joined, lens_of, span_of}
 use Rattle.linkedit_merge.specs.Linkedit.{parts_of}
 use Rattle.linkedit_merge.specs.Shares.{Share}
 use Rattle.slide_chain.specs.declared.words.ChainWord.{ChainWord}
 use Rattle.cache_check.specs.Images.{images_of}
 use Rattle.cache_check.specs.Views.{View}
-use Rattle.extractor.specs.Placing.{Home, address_of, home_of, bound_addresses, is_bound}
+use Rattle.extractor.specs.Placing.{Home, address_of, home_of}
 
 -- ---- rebases: the chain words in the image that aren't bound
 
@@ -26,7 +28,7 @@ abbrev pub is_home : ℕ → Option Home → Bool
 is_home k None = false
 is_home k (Some h) = nat_eq h.image k
 
-abbrev pub is_free : View → List Img → ℕ → List ℕ → ChainWord → Bool
+abbrev pub is_free : View → List Img → ℕ → List BoundWord → ChainWord → Bool
 is_free v images k binds w = is_home k (home_of images (address_of v w)) && not (is_bound binds (address_of v w))
 
 abbrev pub location_at : Img → ℕ → Option Home → Location
@@ -35,7 +37,7 @@ location_at i address (Some h) = record { segment = h.segment; section = unwrap_
 
 unfoldable pub free_words : View → List Img → ℕ → Img → List Location
 free_words v images k i =
-    map (λ (w : ChainWord). location_at i (address_of v w) (home_of images (address_of v w))) (filter (is_free v images k (bound_addresses (all_binds i))) v.words)
+    map (λ (w : ChainWord). location_at i (address_of v w) (home_of images (address_of v w))) (filter (is_free v images k (all_binds i)) v.words)
 
 -- nothing where there are none
 abbrev pub rebase_stream : Img → List Location → List ℕ

@@ -44,17 +44,11 @@ home_from k (i ∷ is) address = or_else (home_in k 0 i.segments address) (home_
 unfoldable pub home_of : List Img → ℕ → Option Home
 home_of images address = home_from 0 images address
 
--- ---- binds by their addresses
+-- ---- binds
 
-abbrev pub bound_addresses : List BoundWord → List ℕ
-bound_addresses binds = addresses_of (places_of binds)
+-- a bind shares a byte with the 8 bytes at an address without being there
+abbrev pub crosses : ℕ → BoundWord → Bool
+crosses address b = is_near b.at.address address && not (nat_eq b.at.address address)
 
--- a bind is at an address; or it shares a byte with the 8 bytes there without being at it
-abbrev pub is_bound : List ℕ → ℕ → Bool
-is_bound binds address = list_any (nat_eq address) binds
-
-abbrev pub clashes : ℕ → ℕ → Bool
-clashes address bind = is_near bind address && not (nat_eq bind address)
-
-abbrev pub is_crossed : List ℕ → ℕ → Bool
-is_crossed binds address = list_any (clashes address) binds
+abbrev pub is_crossed : List BoundWord → ℕ → Bool
+is_crossed binds address = list_any (crosses address) binds

@@ -21,7 +21,7 @@ use Rattle.prebind.specs.declared.resolved.WordTarget.TheVariants.{Place, Consta
 use Rattle.prebind.specs.Sets.{StreamLists, ImageSet, all_binds}
 use Rattle.prebind.specs.Places.{export_break}
 use Rattle.prebind.specs.Targets.{bound_target, outcome_of}
-use Rattle.prebind.specs.Words.{streams_at}
+use Rattle.prebind.specs.Words.{streams_at, is_bound}
 use Rattle.prebind.specs.WordRules.{symbol_break}
 use Rattle.slide_chain.specs.declared.words.ChainWord.{ChainWord}
 use Rattle.cache_header.specs.Findings.{finding}
@@ -30,7 +30,7 @@ use Rattle.load_model.specs.Phases.{first_of}
 use Rattle.load_model.specs.Sums.{count_in, name_bytes, sums_break}
 use Rattle.cache_check.specs.Images.{images_of, images_finding, each_of, header_place}
 use Rattle.cache_check.specs.Views.{View}
-use Rattle.extractor.specs.Placing.{Home, data_start, address_of, home_of, bound_addresses, is_bound, is_crossed}
+use Rattle.extractor.specs.Placing.{Home, address_of, home_of, is_crossed}
 use Rattle.extractor.specs.ExtractOf.{linkedit_limit, size_in}
 
 -- ---- the set that cached images make: binds and exports alone, since the cache has done the rebases and keeps no references
@@ -79,12 +79,12 @@ by_image (None ∷ fs) = by_image fs
 by_image (Some f ∷ fs) = Some (earlier f (by_image fs))
 
 -- `ChainOutside`: a chain word isn't wholly in one section of a segment of data with a number up to 15, crosses a bind, or its image has no dyld info
-abbrev pub is_outside : Img → List ℕ → ℕ → ℕ → Bool
+abbrev pub is_outside : Img → List BoundWord → ℕ → ℕ → Bool
 is_outside i binds g address = nat_lt 15 g || (not i.has_dyld_info || (is_none (section_at i.sections g address) || is_crossed binds address))
 
 abbrev pub outside_in : List BoundWord → Option Img → ℕ → ℕ → Bool
 outside_in binds None g address = true
-outside_in binds (Some i) g address = is_outside i (bound_addresses binds) g address
+outside_in binds (Some i) g address = is_outside i binds g address
 
 abbrev pub outside_at : ImageSet → ChainWord → ℕ → Option Home → Option Finding
 outside_at set w address None = Some (finding ChainOutside 0 w.offset)
@@ -130,13 +130,13 @@ pointer_finding v set = each_of (pointer_in v set) 0 set.streams
 abbrev pub reaches : ℕ → Seg → Bool
 reaches value s = not (is_linkedit_segment s) && (nat_le s.vmaddr value && nat_le value (s.vmaddr + s.vmsize))
 
-abbrev pub is_foreign : List Seg → List ℕ → ℕ → ℕ → Bool
+abbrev pub is_foreign : List Seg → List BoundWord → ℕ → ℕ → Bool
 is_foreign segments binds address value = not (is_bound binds address) && not (list_any (reaches value) segments)
 
 abbrev pub foreign_at : ImageSet → ChainWord → ℕ → Option Home → Option Finding
 foreign_at set w address None = None
 foreign_at set w address (Some h) =
-    if is_foreign (segments_at set.images h.image) (bound_addresses (streams_at set h.image).binds) address w.value then Some (finding ForeignPointer h.image w.offset) else None
+    if is_foreign (segments_at set.images h.image) (streams_at set h.image).binds address w.value then Some (finding ForeignPointer h.image w.offset) else None
 
 abbrev pub foreign_of : View → ImageSet → ChainWord → Option Finding
 foreign_of v set w = foreign_at set w (address_of v w) (home_of set.images (address_of v w))

@@ -34,12 +34,12 @@ fn binds_in<'a>(
     }
 }
 
-/// The exports of a trie that is accepted.
-fn exports_in(alloc: Global, trie: &[u8]) -> Result<Vec<Export>, NoMemory>
-    requires { trie_break trie.now ≡ None }
-    ensures { IfOk result (λ v. v.items ≡ exports_of trie.now) }
+/// The exports of an image whose trie is accepted.
+fn exports_in(alloc: Global, image: &Image<'_>) -> Result<Vec<Export>, NoMemory>
+    requires { IsRead image.now }
+    ensures { IfOk result (λ v. v.items ≡ exports_of image.now.streams.exports) }
 {
-    match read_trie(alloc, trie) {
+    match read_trie(alloc, image.streams.exports) {
         Ok(exports) => Ok(exports),
         Err(_) => Err(NoMemory),
     }
@@ -84,4 +84,72 @@ fn check_sums(records: u64, names: u64) -> Result<(), Fault>
         }));
     }
     Ok(())
+}
+
+/// What is read of an image of a cache; and how many records the images up to it have, and how many bytes the
+/// names that these export.
+#[derive(Drop)]
+struct Counted<'a> {
+    streams: ImageStreams<'a>,
+    records: u64,
+    names: u64,
+}
+
+/// What an image has, behind images with so many records and names of so many bytes.
+fn read_counted<'a>(
+    alloc: Global,
+    image: &Image<'a>,
+    records: u64,
+    names: u64,
+) -> Result<Counted<'a>, Fault>
+    requires read { IsRead image.now }
+    requires records { records ≤ set_record_limit }
+    requires names { names ≤ export_names_limit }
+    ensures streams { IfOk result (λ l. l.streams ≡ spec.cached_lists image.now) }
+    ensures records { IfOk result (λ l. l.records ≡ records + sums.count_in (spec.cached_lists image.now)) }
+    ensures names { IfOk result (λ l. l.names ≡ names + sums.name_bytes image.now) }
+    ensures few { IfOk result (λ l. l.records ≤ set_record_limit) }
+    ensures short { IfOk result (λ l. l.names ≤ export_names_limit) }
+    ensures cause { Refuses (sums.sums_break (records + sums.count_in (spec.cached_lists image.now)) (names + sums.name_bytes image.now)) result }
+{
+    let streams = read_lists(alloc, image)?;
+    let exports = exports_in(alloc, image)?;
+    let records = records.saturating_add(streams.binds.len() as u64);
+    let names = names_with(names, &exports);
+    match check_sums(records, names) {
+        Ok(()) => {}
+        Err(fault) => return Err(fault),
+    }
+    Ok(Counted {
+        streams,
+        records,
+        names,
+    })
+}
+
+/// What the streams of each image spell, or the first image with which there are too many records, or too
+/// many bytes of names.
+pub(crate) fn read_all<'a>(
+    alloc: Global,
+    images: &[Image<'a>],
+) -> Result<Vec<ImageStreams<'a>>, SetFault>
+    requires few { length images.now ≤ 4096 }
+    requires read { AreRead images.now }
+    ensures streams { IfOk result (λ v. v.items ≡ map spec.cached_lists images.now) }
+    ensures cause { RefusesSet (spec.sums_from 0 0 0 images.now) result }
+{
+    let mut streams = Vec::with_capacity(alloc, images.len())?;
+    let mut records = 0;
+    let mut names = 0;
+    for (number, image) in images.iter().enumerate() {
+        match read_counted(alloc, image, records, names) {
+            Ok(counted) => {
+                records = counted.records;
+                names = counted.names;
+                streams.push(counted.streams)?;
+            }
+            Err(fault) => return Err(fault.in_image(number as u32)),
+        }
+    }
+    Ok(streams)
 }
