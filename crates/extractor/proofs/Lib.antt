@@ -1,1 +1,4 @@
+pub mod BoundLaws
+pub mod ReadLaws
+pub mod SetLaws
 pub mod SumsLaws

@@ -1,4 +1,6 @@
+pub mod Bound
 pub mod ExtractOf
+pub mod Faults
 pub mod Placing
 pub mod Reading
 pub mod Vetting

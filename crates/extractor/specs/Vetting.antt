@@ -54,10 +54,12 @@ sums_from k records names (i ∷ is) =
 abbrev pub symbol_break_in : ImageSet → ℕ → Option Break
 symbol_break_in set k = option_map (in_image k) (symbol_break set k)
 
+-- rule 131 of all images, and then rules 132 to 134
+unfoldable pub symbols_break : ImageSet → Option Break
+symbols_break set = first_break (first_of (export_break set) (length set.images) ∷ first_of (symbol_break_in set) (length set.images) ∷ [])
+
 unfoldable pub set_break : List Img → Option Break
-set_break images =
-    let set = cached_set images in
-    first_break (sums_from 0 0 0 images ∷ link_break images ∷ first_of (export_break set) (length images) ∷ first_of (symbol_break_in set) (length images) ∷ [])
+set_break images = first_break (sums_from 0 0 0 images ∷ link_break images ∷ symbols_break (cached_set images) ∷ [])
 
 -- a rule that an image of the set breaks has the rule's number for its place
 abbrev pub break_finding : Break → Finding

@@ -3,4 +3,5 @@
 #![tactic(auto)]
 
 mod links;
+mod set;
 mod symbols;

@@ -8,6 +8,7 @@ ghost use Rattle.prebind.specs.Steps.{set_of};
 ghost use Rattle.prebind.specs.Targets as targets;
 ghost use Rattle.prebind.specs.WordRules as rules;
 ghost use Rattle.prebind.specs.Words as words;
+ghost use Rattle.extractor.specs.Bound.{AreAllBound};
 ghost use Rattle.extractor.specs.Vetting as spec;
 
 use bind_ops::Bind;
@@ -138,4 +139,23 @@ pub(crate) fn check_all_exports(alloc: Global, set: &Set<'_, '_>) -> Result<(), 
         }
     }
     Ok(())
+}
+
+/// The bound words of each image in the order of its binds, or the first image with a bind that breaks a rule.
+pub(crate) fn place_all(
+    alloc: Global,
+    set: &Set<'_, '_>,
+) -> Result<Vec<Vec<PlacedWord>>, SetFault>
+    requires sound { IsSoundSet (set_of set.now) }
+    ensures placed { IfOk result (λ v. AreAllBound (set_of set.now) v.items) }
+    ensures cause { RefusesSet (first_of (spec.symbol_break_in (set_of set.now)) (length set.now.images.now)) result }
+{
+    let mut words = Vec::with_capacity(alloc, set.images.len())?;
+    for image in 0..set.images.len() as u32 {
+        match place_image(alloc, set, image) {
+            Ok(own) => words.push(own)?,
+            Err(fault) => return Err(fault),
+        }
+    }
+    Ok(words)
 }
