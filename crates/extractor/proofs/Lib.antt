@@ -1,4 +1,5 @@
 pub mod BoundLaws
+pub mod HomeLaws
 pub mod ReadLaws
 pub mod SetLaws
 pub mod SumsLaws

@@ -20,7 +20,8 @@ use Rattle.linkedit_merge.specs.Shares.{Share}
 use Rattle.slide_chain.specs.declared.words.ChainWord.{ChainWord}
 use Rattle.cache_check.specs.Images.{images_of}
 use Rattle.cache_check.specs.Views.{View}
-use Rattle.extractor.specs.Placing.{Home, address_of, home_of}
+use Rattle.extractor.specs.declared.homes.Home.{Home}
+use Rattle.extractor.specs.Placing.{address_of, home_of}
 
 -- ---- rebases: the chain words in the image that aren't bound
 

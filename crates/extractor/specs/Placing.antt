@@ -11,6 +11,7 @@ use Rattle.bind_ops.specs.Binds.{places_of}
 use Rattle.slide_chain.specs.declared.words.ChainWord.{ChainWord}
 use Rattle.cache_check.specs.Shape.{data_mapping}
 use Rattle.cache_check.specs.Views.{View}
+use Rattle.extractor.specs.declared.homes.Home.{Home}
 
 -- the address at slide 0 of a chain word, whose offset counts from the start of the data
 abbrev pub data_start : View → ℕ
@@ -24,10 +25,6 @@ abbrev pub has_data : ℕ → Seg → Bool
 has_data address s = nat_eq s.initprot 3 && contains s address
 
 -- the segment of data in which an address lies, by the numbers of its image and of the segment in it
-pub record Home : Type 0 where
-  pub image : ℕ
-  pub segment : ℕ
-
 abbrev pub home_in : ℕ → ℕ → List Seg → ℕ → Option Home
 home_in k g [] address = None
 home_in k g (s ∷ ss) address = if has_data address s then Some (record { image = k; segment = g }) else home_in k (g + 1) ss address

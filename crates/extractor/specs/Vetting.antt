@@ -30,7 +30,8 @@ use Rattle.load_model.specs.Phases.{first_of}
 use Rattle.load_model.specs.Sums.{count_in, name_bytes, sums_break}
 use Rattle.cache_check.specs.Images.{images_of, images_finding, each_of, header_place}
 use Rattle.cache_check.specs.Views.{View}
-use Rattle.extractor.specs.Placing.{Home, address_of, home_of, is_crossed}
+use Rattle.extractor.specs.declared.homes.Home.{Home}
+use Rattle.extractor.specs.Placing.{address_of, home_of, is_crossed}
 use Rattle.extractor.specs.ExtractOf.{linkedit_limit, size_in}
 
 -- ---- the set that cached images make: binds and exports alone, since the cache has done the rebases and keeps no references

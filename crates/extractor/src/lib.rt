@@ -2,6 +2,7 @@
 //! its own, after `mach-o/loader.h` of Apple's published sources.
 #![tactic(auto)]
 
+mod homes;
 mod links;
 mod set;
 mod symbols;
