@@ -87,7 +87,7 @@ at_back old f e v k range le =
 
 -- ---- a segment of data
 
-no_word : ChainWord
+abbrev pub no_word : ChainWord
 no_word = record { offset = 0; value = 0 }
 
 each_at : (f : ℕ → Option Home) (start : ℕ) (words : List ChainWord) (k : ℕ) → k < length words → get_or (each_word f start words) k None ≡ f (start + (get_or words k no_word).offset)
@@ -210,3 +210,13 @@ homes_more start words homes homes' k images i done lt at more = record {
 pub homes_all : (start : ℕ) (words : List ChainWord) (homes : List (Option Home)) (images : List Img) → AreHomes start words homes 0 images → homes ≡ each_word (home_of images) start words
 unfolding home_of
 homes_all start words homes images done = done.are
+
+-- the home of one word
+pub home_at : (images : List Img) (start : ℕ) (words : List ChainWord) (homes : List (Option Home)) (k : ℕ) → homes ≡ each_word (home_of images) start words → k < length words
+    → get_or homes k None ≡ home_of images (start + (get_or words k no_word).offset)
+home_at images start words homes k are lt = ap (λ (l : List (Option Home)). get_or l k None) are ∙ each_at (home_of images) start words k lt
+
+pub word_at : (words : List ChainWord) (k : ℕ) (d e : ChainWord) → k < length words → get_or words k d ≡ get_or words k e
+word_at [] k d e lt = absurd (omega (arith, lt))
+word_at (w ∷ ws) zero d e lt = refl
+word_at (w ∷ ws) (suc k) d e lt = word_at ws k d e (omega (arith, lt))

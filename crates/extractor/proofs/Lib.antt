@@ -1,4 +1,6 @@
 pub mod BoundLaws
+pub mod BoundsLaws
+pub mod FirstLaws
 pub mod HomeLaws
 pub mod ReadLaws
 pub mod SetLaws

@@ -1,4 +1,5 @@
 pub mod Bound
+pub mod Chained
 pub mod ExtractOf
 pub mod Faults
 pub mod Homes

@@ -3,11 +3,10 @@ use Rattle.std.specs.Prelude.{ℕ, ◌+◌, ◌-◌, Bool, ◌&&◌, ◌||◌, n
 use Rattle.std.specs.List.{list_any}
 use Rattle.macho_image.specs.Records.{Seg, Img}
 use Rattle.macho_image.specs.declared.place.Location.{Location}
-use Rattle.macho_image.specs.Order.{addresses_of, is_near}
 use Rattle.macho_image.specs.Places.{section_at}
 use Rattle.macho_image.specs.Segments.{contains}
 use Rattle.bind_ops.specs.Records.{BoundWord}
-use Rattle.bind_ops.specs.Binds.{places_of}
+use Rattle.bind_ops.specs.Clash.{is_skew}
 use Rattle.slide_chain.specs.declared.words.ChainWord.{ChainWord}
 use Rattle.cache_check.specs.Shape.{data_mapping}
 use Rattle.cache_check.specs.Views.{View}
@@ -45,7 +44,7 @@ home_of images address = home_from 0 images address
 
 -- a bind shares a byte with the 8 bytes at an address without being there
 abbrev pub crosses : ℕ → BoundWord → Bool
-crosses address b = is_near b.at.address address && not (nat_eq b.at.address address)
+crosses address b = is_skew b.at.address address
 
 abbrev pub is_crossed : List BoundWord → ℕ → Bool
 is_crossed binds address = list_any (crosses address) binds

@@ -72,14 +72,14 @@ link_finding images = option_map break_finding (set_break images)
 -- ---- findings of chain words, which belong to the image in whose data they begin, and to image 0 where there is none
 
 -- of findings in the order of their places, the first of the least image
-abbrev pub earlier : Finding → Option Finding → Finding
-earlier f None = f
-earlier f (Some g) = if nat_lt g.image f.image then g else f
+abbrev pub earlier : Option Finding → Option Finding → Option Finding
+earlier None others = others
+earlier (Some f) None = Some f
+earlier (Some f) (Some g) = if nat_lt g.image f.image then Some g else Some f
 
 unfoldable pub by_image : List (Option Finding) → Option Finding
 by_image [] = None
-by_image (None ∷ fs) = by_image fs
-by_image (Some f ∷ fs) = Some (earlier f (by_image fs))
+by_image (found ∷ others) = earlier found (by_image others)
 
 -- `ChainOutside`: a chain word isn't wholly in one section of a segment of data with a number up to 15, crosses a bind, or its image has no dyld info
 abbrev pub is_outside : Img → List BoundWord → ℕ → ℕ → Bool
@@ -136,10 +136,14 @@ reaches value s = not (is_linkedit_segment s) && (nat_le s.vmaddr value && nat_l
 abbrev pub is_foreign : List Seg → List BoundWord → ℕ → ℕ → Bool
 is_foreign segments binds address value = not (is_bound binds address) && not (list_any (reaches value) segments)
 
+abbrev pub foreign_in : List BoundWord → Option Img → ℕ → ℕ → Bool
+foreign_in binds None address value = true
+foreign_in binds (Some i) address value = is_foreign i.segments binds address value
+
 abbrev pub foreign_at : ImageSet → ChainWord → ℕ → Option Home → Option Finding
 foreign_at set w address None = None
 foreign_at set w address (Some h) =
-    if is_foreign (segments_at set.images h.image) (streams_at set h.image).binds address w.value then Some (finding ForeignPointer h.image w.offset) else None
+    if foreign_in (streams_at set h.image).binds (slice_get set.images h.image) address w.value then Some (finding ForeignPointer h.image w.offset) else None
 
 abbrev pub foreign_of : View → ImageSet → ChainWord → Option Finding
 foreign_of v set w = foreign_at set w (address_of v w) (home_of set.images (address_of v w))

@@ -2,6 +2,8 @@
 //! its own, after `mach-o/loader.h` of Apple's published sources.
 #![tactic(auto)]
 
+mod bounds;
+mod chain;
 mod homes;
 mod links;
 mod set;
