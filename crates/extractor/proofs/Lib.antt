@@ -1,5 +1,6 @@
 pub mod BoundLaws
 pub mod BoundsLaws
+pub mod ChainLaws
 pub mod FirstLaws
 pub mod HomeLaws
 pub mod ReadLaws

@@ -1,5 +1,5 @@
 -- What may be wrong with a cache whose images keep the rules by themselves: how they are linked, where chain words lie and where words lead.
-use Rattle.std.specs.Prelude.{ℕ, ◌+◌, Bool, true, false, not, ◌&&◌, ◌||◌, nat_eq, nat_le, nat_lt, is_none, if◌then◌else◌, List, [], ◌∷◌, length, map, Option, Some, None, option_map, slice_get, slice_index_or}
+use Rattle.std.specs.Prelude.{ℕ, ◌+◌, Bool, true, false, not, ◌&&◌, ◌||◌, nat_eq, nat_le, nat_lt, is_none, if◌then◌else◌, List, [], ◌∷◌, length, map, Option, Some, None, option_map, position, slice_get}
 use Rattle.std.specs.List.{list_any}
 use Rattle.std.specs.Option.{option_or}
 use Rattle.dsc_base.specs.Refusals.{first_break, in_image}
@@ -20,8 +20,8 @@ use Rattle.prebind.specs.declared.resolved.WordTarget.{WordTarget}
 use Rattle.prebind.specs.declared.resolved.WordTarget.TheVariants.{Place, Constant}
 use Rattle.prebind.specs.Sets.{StreamLists, ImageSet, all_binds}
 use Rattle.prebind.specs.Places.{export_break}
-use Rattle.prebind.specs.Targets.{bound_target, outcome_of}
-use Rattle.prebind.specs.Words.{streams_at, is_bound}
+use Rattle.prebind.specs.declared.resolved.PlacedWord.{PlacedWord}
+use Rattle.prebind.specs.Words.{streams_at, is_bound, bound_words}
 use Rattle.prebind.specs.WordRules.{symbol_break}
 use Rattle.slide_chain.specs.declared.words.ChainWord.{ChainWord}
 use Rattle.cache_header.specs.Findings.{finding}
@@ -31,7 +31,7 @@ use Rattle.load_model.specs.Sums.{count_in, name_bytes, sums_break}
 use Rattle.cache_check.specs.Images.{images_of, images_finding, each_of, header_place}
 use Rattle.cache_check.specs.Views.{View}
 use Rattle.extractor.specs.declared.homes.Home.{Home}
-use Rattle.extractor.specs.Placing.{address_of, home_of, is_crossed}
+use Rattle.extractor.specs.Placing.{data_start, address_of, home_of, is_crossed}
 use Rattle.extractor.specs.ExtractOf.{linkedit_limit, size_in}
 
 -- ---- the set that cached images make: binds and exports alone, since the cache has done the rebases and keeps no references
@@ -102,30 +102,27 @@ chain_finding v set = by_image (map (outside_of v set) v.words)
 
 -- ---- `PointerNotSymbol`: what the bound words have at slide 0
 
-abbrev pub is_chained : View → ℕ → Bool
-is_chained v address = list_any (λ (w : ChainWord). nat_eq address (address_of v w)) v.words
+abbrev pub is_chained : ℕ → List ChainWord → ℕ → Bool
+is_chained start words address = list_any (λ (w : ChainWord). nat_eq address (start + w.offset)) words
 
--- where a segment of an image of the set starts
-abbrev pub start_at : ImageSet → ℕ → ℕ → ℕ
-start_at set k g = start_of (slice_get (segments_at set.images k) g)
+-- where a segment of an image starts
+abbrev pub start_at : List Img → ℕ → ℕ → ℕ
+start_at images k g = start_of (slice_get (segments_at images k) g)
 
 -- a number and whether it slides are those of a target: the address of a place slides, and a constant doesn't
-abbrev pub is_number_of : ImageSet → Bool → ℕ → WordTarget → Bool
-is_number_of set slides number (Place k g distance) = slides && nat_eq number (wrap (start_at set k g + distance))
-is_number_of set slides number (Constant c) = not slides && nat_eq number c
+abbrev pub is_number_of : List Img → Bool → ℕ → WordTarget → Bool
+is_number_of images slides number (Place k g distance) = slides && nat_eq number (wrap (start_at images k g + distance))
+is_number_of images slides number (Constant c) = not slides && nat_eq number c
 
-abbrev pub is_set : View → ImageSet → ℕ → BoundWord → Bool
-is_set v set k b = is_number_of set (is_chained v b.at.address) (value_of (segments_at set.images k) b.at) (bound_target b.addend (outcome_of set k b))
+abbrev pub is_set : ℕ → List ChainWord → List Img → List Seg → PlacedWord → Bool
+is_set start words images segments w = is_number_of images (is_chained start words w.at.address) (value_of segments w.at) w.target
 
-abbrev pub bind_finding_from : View → ImageSet → ℕ → ℕ → List BoundWord → Option Finding
-bind_finding_from v set k j [] = None
-bind_finding_from v set k j (b ∷ bs) = if is_set v set k b then bind_finding_from v set k (j + 1) bs else Some (finding PointerNotSymbol k j)
-
-abbrev pub pointer_in : View → ImageSet → ℕ → StreamLists → Option Finding
-pointer_in v set k s = bind_finding_from v set k 0 s.binds
+unfoldable pub pointer_in : ℕ → List ChainWord → ImageSet → ℕ → Img → Option Finding
+pointer_in start words set k i =
+    option_map (λ (j : ℕ). finding PointerNotSymbol k j) (position (λ (w : PlacedWord). not (is_set start words set.images i.segments w)) (bound_words set k))
 
 unfoldable pub pointer_finding : View → ImageSet → Option Finding
-pointer_finding v set = each_of (pointer_in v set) 0 set.streams
+pointer_finding v set = each_of (pointer_in (data_start v) v.words set) 0 set.images
 
 -- ---- `ForeignPointer`: a chain word that isn't bound leads out of its own image
 

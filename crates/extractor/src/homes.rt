@@ -27,7 +27,7 @@ fn is_below(word: &ChainWord, start: u64, bound: u128) -> bool
 }
 
 /// The number of the first word that doesn't lie below an address, where offsets count from a start.
-fn first_from(words: &[ChainWord], start: u64, bound: u128) -> usize
+pub(crate) fn first_from(words: &[ChainWord], start: u64, bound: u128) -> usize
     requires { spec.Rise words.now }
     ensures { spec.IsFirstFrom start words.now bound result }
 {

@@ -6,5 +6,6 @@ mod bounds;
 mod chain;
 mod homes;
 mod links;
+mod pointers;
 mod set;
 mod symbols;
