@@ -20,9 +20,13 @@ use Rattle.prebind.specs.Sets.{StreamLists, ImageSet, all_binds}
 use Rattle.prebind.specs.Words.{streams_in, is_bound}
 use Rattle.slide_chain.specs.declared.words.ChainWord.{ChainWord}
 use Rattle.cache_header.specs.Findings.{finding}
-use Rattle.cache_check.specs.Views.{View}
+use Rattle.dsc_base.specs.Refusals.{IsViewRefusal}
+use Rattle.dsc_base.specs.declared.fault.ViewFault.{ViewFault}
+use Rattle.dsc_base.specs.declared.fault.ViewFault.TheVariants.{Broken as BrokenView, Memory as ViewMemory}
+use Rattle.cache_check.specs.Images.{each_of}
+use Rattle.std.specs.Option.{option_or}
 use Rattle.extractor.specs.declared.homes.Home.{Home}
-use Rattle.extractor.specs.Placing.{data_start, address_of, home_of, crosses, is_crossed}
+use Rattle.extractor.specs.Placing.{home_of, crosses, is_crossed}
 use Rattle.extractor.specs.Reading.{IsRead, AreRead}
 use Rattle.extractor.specs.Chained as tried
 use Rattle.extractor.specs.Chained.{binds_at, has, AreAddresses, AreBounds, IsAddress, HaveAddresses}
@@ -126,26 +130,57 @@ foreign_home images bounds w a (Some h) are =
 
 -- ---- all words
 
-outsides : (v : View) (images : List Img) (bounds : List (List ℕ)) (words : List ChainWord) → AreTried images bounds → HaveAddresses (data_start v) words
-    → map (tried.outside_of images bounds (data_start v)) words ≡ map (spec.outside_of v (cached_set images)) words
+outsides : (start : ℕ) (images : List Img) (bounds : List (List ℕ)) (words : List ChainWord) → AreTried images bounds → HaveAddresses start words
+    → map (tried.outside_of images bounds start) words ≡ map (spec.outside_of start (cached_set images)) words
 unfolding cached_set
-outsides v images bounds [] are addresses = refl
-outsides v images bounds (w ∷ ws) are addresses =
-    ap₂ (λ (f : Option Finding) (fs : List (Option Finding)). f ∷ fs) (outside_home images bounds w (address_of v w) (home_of images (address_of v w)) are (addresses 0 w (omega arith)))
-    (outsides v images bounds ws are (λ k d lt. addresses (suc k) d (omega (arith, lt))))
+outsides start images bounds [] are addresses = refl
+outsides start images bounds (w ∷ ws) are addresses =
+    ap₂ (λ (f : Option Finding) (fs : List (Option Finding)). f ∷ fs) (outside_home images bounds w (start + w.offset) (home_of images (start + w.offset)) are (addresses 0 w (omega arith)))
+    (outsides start images bounds ws are (λ k d lt. addresses (suc k) d (omega (arith, lt))))
 
-foreigns : (v : View) (images : List Img) (bounds : List (List ℕ)) (words : List ChainWord) → AreTried images bounds → map (tried.foreign_of images bounds (data_start v)) words ≡ map (spec.foreign_of v (cached_set images)) words
+foreigns : (start : ℕ) (images : List Img) (bounds : List (List ℕ)) (words : List ChainWord) → AreTried images bounds → map (tried.foreign_of images bounds start) words ≡ map (spec.foreign_of start (cached_set images)) words
 unfolding cached_set
-foreigns v images bounds [] are = refl
-foreigns v images bounds (w ∷ ws) are =
-    ap₂ (λ (f : Option Finding) (fs : List (Option Finding)). f ∷ fs) (foreign_home images bounds w (address_of v w) (home_of images (address_of v w)) are) (foreigns v images bounds ws are)
+foreigns start images bounds [] are = refl
+foreigns start images bounds (w ∷ ws) are =
+    ap₂ (λ (f : Option Finding) (fs : List (Option Finding)). f ∷ fs) (foreign_home images bounds w (start + w.offset) (home_of images (start + w.offset)) are) (foreigns start images bounds ws are)
 
-pub chain_is : (v : View) (images : List Img) (bounds : List (List ℕ)) → AreBounds (map cached_lists images) bounds → AreRead images → HaveAddresses (data_start v) v.words
-    → spec.by_image (map (tried.outside_of images bounds (data_start v)) v.words) ≡ spec.chain_finding v (cached_set images)
+pub chain_is : (start : ℕ) (words : List ChainWord) (images : List Img) (bounds : List (List ℕ)) → AreBounds (map cached_lists images) bounds → AreRead images → HaveAddresses start words
+    → spec.by_image (map (tried.outside_of images bounds start) words) ≡ spec.chain_finding start words (cached_set images)
 unfolding spec.chain_finding
-chain_is v images bounds bounds_are read addresses = ap spec.by_image (outsides v images bounds v.words (record { bounds_are = bounds_are; read = read }) addresses)
+chain_is start words images bounds bounds_are read addresses = ap spec.by_image (outsides start images bounds words (record { bounds_are = bounds_are; read = read }) addresses)
 
-pub foreign_is : (v : View) (images : List Img) (bounds : List (List ℕ)) → AreBounds (map cached_lists images) bounds → AreRead images
-    → spec.by_image (map (tried.foreign_of images bounds (data_start v)) v.words) ≡ spec.foreign_finding v (cached_set images)
+pub foreign_is : (start : ℕ) (words : List ChainWord) (images : List Img) (bounds : List (List ℕ)) → AreBounds (map cached_lists images) bounds → AreRead images
+    → spec.by_image (map (tried.foreign_of images bounds start) words) ≡ spec.foreign_finding start words (cached_set images)
 unfolding spec.foreign_finding
-foreign_is v images bounds bounds_are read = ap spec.by_image (foreigns v images bounds v.words (record { bounds_are = bounds_are; read = read }))
+foreign_is start words images bounds bounds_are read = ap spec.by_image (foreigns start images bounds words (record { bounds_are = bounds_are; read = read }))
+
+-- ---- the three kinds of findings, one after the other
+
+pub outside_found : (start : ℕ) (words : List ChainWord) (images : List Img) (f : Finding) → Some f ≡ spec.chain_finding start words (cached_set images) → spec.words_finding start words (cached_set images) ≡ Some f
+unfolding spec.words_finding
+outside_found start words images f is =
+    ap (λ (o : Option Finding). option_or o (option_or (spec.pointer_finding start words (cached_set images)) (option_or (spec.foreign_finding start words (cached_set images)) None))) (sym is)
+
+after_chain : (start : ℕ) (words : List ChainWord) (images : List Img) → None ≡ spec.chain_finding start words (cached_set images)
+    → spec.words_finding start words (cached_set images) ≡ option_or (spec.pointer_finding start words (cached_set images)) (option_or (spec.foreign_finding start words (cached_set images)) None)
+unfolding spec.words_finding
+after_chain start words images is =
+    ap (λ (o : Option Finding). option_or o (option_or (spec.pointer_finding start words (cached_set images)) (option_or (spec.foreign_finding start words (cached_set images)) None))) (sym is)
+
+pub pointer_refused : (start : ℕ) (words : List ChainWord) (images : List Img) (fault : ViewFault) → None ≡ spec.chain_finding start words (cached_set images) → IsViewRefusal (each_of (spec.pointer_in start words (cached_set images)) 0 images) fault
+    → IsViewRefusal (spec.words_finding start words (cached_set images)) fault
+unfolding spec.pointer_finding cached_set
+pointer_refused start words images (BrokenView f) is found = after_chain start words images is ∙ ap (λ (o : Option Finding). option_or o (option_or (spec.foreign_finding start words (cached_set images)) None)) found
+pointer_refused start words images ViewMemory is found = tt
+
+pub after_pointers : (start : ℕ) (words : List ChainWord) (images : List Img) (o : Option Finding) → None ≡ spec.chain_finding start words (cached_set images) → each_of (spec.pointer_in start words (cached_set images)) 0 images ≡ None
+    → o ≡ spec.foreign_finding start words (cached_set images) → spec.words_finding start words (cached_set images) ≡ o
+unfolding spec.pointer_finding cached_set
+after_pointers start words images o is none foreign =
+    after_chain start words images is
+    ∙ (ap (λ (p : Option Finding). option_or p (option_or (spec.foreign_finding start words (cached_set images)) None)) none
+    ∙ (ap (λ (p : Option Finding). option_or p None) (sym foreign) ∙ last o))
+  where
+    last : (o : Option Finding) → option_or o None ≡ o
+    last None = refl
+    last (Some f) = refl

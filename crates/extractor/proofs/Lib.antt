@@ -3,6 +3,7 @@ pub mod BoundsLaws
 pub mod ChainLaws
 pub mod FirstLaws
 pub mod HomeLaws
+pub mod PlaceLaws
 pub mod PointerLaws
 pub mod ReadLaws
 pub mod SetLaws

@@ -31,7 +31,7 @@ use Rattle.load_model.specs.Sums.{count_in, name_bytes, sums_break}
 use Rattle.cache_check.specs.Images.{images_of, images_finding, each_of, header_place}
 use Rattle.cache_check.specs.Views.{View}
 use Rattle.extractor.specs.declared.homes.Home.{Home}
-use Rattle.extractor.specs.Placing.{data_start, address_of, home_of, is_crossed}
+use Rattle.extractor.specs.Placing.{data_start, home_of, is_crossed}
 use Rattle.extractor.specs.ExtractOf.{linkedit_limit, size_in}
 
 -- ---- the set that cached images make: binds and exports alone, since the cache has done the rebases and keeps no references
@@ -94,11 +94,11 @@ outside_at set w address None = Some (finding ChainOutside 0 w.offset)
 outside_at set w address (Some h) =
     if outside_in (streams_at set h.image).binds (slice_get set.images h.image) h.segment address then Some (finding ChainOutside h.image w.offset) else None
 
-abbrev pub outside_of : View → ImageSet → ChainWord → Option Finding
-outside_of v set w = outside_at set w (address_of v w) (home_of set.images (address_of v w))
+abbrev pub outside_of : ℕ → ImageSet → ChainWord → Option Finding
+outside_of start set w = outside_at set w (start + w.offset) (home_of set.images (start + w.offset))
 
-unfoldable pub chain_finding : View → ImageSet → Option Finding
-chain_finding v set = by_image (map (outside_of v set) v.words)
+unfoldable pub chain_finding : ℕ → List ChainWord → ImageSet → Option Finding
+chain_finding start words set = by_image (map (outside_of start set) words)
 
 -- ---- `PointerNotSymbol`: what the bound words have at slide 0
 
@@ -121,8 +121,8 @@ unfoldable pub pointer_in : ℕ → List ChainWord → ImageSet → ℕ → Img 
 pointer_in start words set k i =
     option_map (λ (j : ℕ). finding PointerNotSymbol k j) (position (λ (w : PlacedWord). not (is_set start words set.images i.segments w)) (bound_words set k))
 
-unfoldable pub pointer_finding : View → ImageSet → Option Finding
-pointer_finding v set = each_of (pointer_in (data_start v) v.words set) 0 set.images
+unfoldable pub pointer_finding : ℕ → List ChainWord → ImageSet → Option Finding
+pointer_finding start words set = each_of (pointer_in start words set) 0 set.images
 
 -- ---- `ForeignPointer`: a chain word that isn't bound leads out of its own image
 
@@ -142,11 +142,11 @@ foreign_at set w address None = None
 foreign_at set w address (Some h) =
     if foreign_in (streams_at set h.image).binds (slice_get set.images h.image) address w.value then Some (finding ForeignPointer h.image w.offset) else None
 
-abbrev pub foreign_of : View → ImageSet → ChainWord → Option Finding
-foreign_of v set w = foreign_at set w (address_of v w) (home_of set.images (address_of v w))
+abbrev pub foreign_of : ℕ → ImageSet → ChainWord → Option Finding
+foreign_of start set w = foreign_at set w (start + w.offset) (home_of set.images (start + w.offset))
 
-unfoldable pub foreign_finding : View → ImageSet → Option Finding
-foreign_finding v set = by_image (map (foreign_of v set) v.words)
+unfoldable pub foreign_finding : ℕ → List ChainWord → ImageSet → Option Finding
+foreign_finding start words set = by_image (map (foreign_of start set) words)
 
 -- ---- `ExtractTooLarge`: the linkedit of the file that is made of an image
 
@@ -158,9 +158,10 @@ size_finding v = each_of (large_finding v) 0 v.head.images
 
 -- ---- all of them, in their order
 
+-- those of chain words whose offsets count from a start, in a set
+unfoldable pub words_finding : ℕ → List ChainWord → ImageSet → Option Finding
+words_finding start words set = first_break (chain_finding start words set ∷ pointer_finding start words set ∷ foreign_finding start words set ∷ [])
+
 unfoldable pub vet_finding : View → Option Finding
 vet_finding v =
-    let images = images_of v in
-    let set = cached_set images in
-    first_break (images_finding v ∷ link_finding images ∷ chain_finding v set ∷ pointer_finding v set ∷ foreign_finding v set
-    ∷ size_finding v ∷ [])
+    first_break (images_finding v ∷ link_finding (images_of v) ∷ words_finding (data_start v) v.words (cached_set (images_of v)) ∷ size_finding v ∷ [])

@@ -9,3 +9,4 @@ mod links;
 mod pointers;
 mod set;
 mod symbols;
+mod words;
