@@ -84,7 +84,7 @@ record AreTried (images : List Img) (bounds : List (List ℕ)) : Type 0 where
   pub bounds_are : AreBounds (map cached_lists images) bounds
   pub read : AreRead images
 
-binds_are : (images : List Img) (k : ℕ) (i : Img) → slice_get images k ≡ Some i → binds_at (map cached_lists images) k ≡ all_binds i
+pub binds_are : (images : List Img) (k : ℕ) (i : Img) → slice_get images k ≡ Some i → binds_at (map cached_lists images) k ≡ all_binds i
 binds_are [] k i got = absurd (cc)
 binds_are (j ∷ js) zero i got = let same : j ≡ i = cc in ap (λ (m : Img). all_binds m) same
 binds_are (j ∷ js) (suc k) i got = binds_are js k i got

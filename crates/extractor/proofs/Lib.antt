@@ -2,6 +2,7 @@ pub mod BoundLaws
 pub mod BoundsLaws
 pub mod ChainLaws
 pub mod FirstLaws
+pub mod FreeLaws
 pub mod HomeLaws
 pub mod PlaceLaws
 pub mod PointerLaws

@@ -21,7 +21,7 @@ use Rattle.slide_chain.specs.declared.words.ChainWord.{ChainWord}
 use Rattle.cache_check.specs.Images.{images_of}
 use Rattle.cache_check.specs.Views.{View}
 use Rattle.extractor.specs.declared.homes.Home.{Home}
-use Rattle.extractor.specs.Placing.{address_of, home_of}
+use Rattle.extractor.specs.Placing.{data_start, home_of}
 
 -- ---- rebases: the chain words in the image that aren't bound
 
@@ -29,16 +29,18 @@ abbrev pub is_home : ℕ → Option Home → Bool
 is_home k None = false
 is_home k (Some h) = nat_eq h.image k
 
-abbrev pub is_free : View → List Img → ℕ → List BoundWord → ChainWord → Bool
-is_free v images k binds w = is_home k (home_of images (address_of v w)) && not (is_bound binds (address_of v w))
+abbrev pub is_free : ℕ → List Img → ℕ → List BoundWord → ChainWord → Bool
+is_free start images k binds w = is_home k (home_of images (start + w.offset)) && not (is_bound binds (start + w.offset))
 
 abbrev pub location_at : Img → ℕ → Option Home → Location
 location_at i address None = record { segment = 0; section = 0; address = address }
 location_at i address (Some h) = record { segment = h.segment; section = unwrap_or (section_at i.sections h.segment address) 0; address = address }
 
-unfoldable pub free_words : View → List Img → ℕ → Img → List Location
-free_words v images k i =
-    map (λ (w : ChainWord). location_at i (address_of v w) (home_of images (address_of v w))) (filter (is_free v images k (all_binds i)) v.words)
+abbrev pub location_of : ℕ → List Img → Img → ChainWord → Location
+location_of start images i w = location_at i (start + w.offset) (home_of images (start + w.offset))
+
+unfoldable pub free_words : ℕ → List ChainWord → List Img → ℕ → Img → List Location
+free_words start words images k i = map (location_of start images i) (filter (is_free start images k (all_binds i)) words)
 
 -- nothing where there are none
 abbrev pub rebase_stream : Img → List Location → List ℕ
@@ -122,11 +124,11 @@ file_of k i words = header_of k i words ++ (drop (length (header_of k i words)) 
 -- how many bytes the linkedit of image k has there
 abbrev pub size_in : View → List Img → ℕ → Option Img → ℕ
 size_in v images k None = 0
-size_in v images k (Some i) = length (linkedit_of i (free_words v images k i))
+size_in v images k (Some i) = length (linkedit_of i (free_words (data_start v) v.words images k i))
 
 abbrev pub file_in : View → ℕ → Option Img → List ℕ
 file_in v k None = []
-file_in v k (Some i) = file_of k i (free_words v (images_of v) k i)
+file_in v k (Some i) = file_of k i (free_words (data_start v) v.words (images_of v) k i)
 
 unfoldable pub extract_of : View → ℕ → List ℕ
 extract_of v k = file_in v k (slice_get (images_of v) k)

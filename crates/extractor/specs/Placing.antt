@@ -12,12 +12,9 @@ use Rattle.cache_check.specs.Shape.{data_mapping}
 use Rattle.cache_check.specs.Views.{View}
 use Rattle.extractor.specs.declared.homes.Home.{Home}
 
--- the address at slide 0 of a chain word, whose offset counts from the start of the data
+-- offsets of chain words count from the start of the data
 abbrev pub data_start : View → ℕ
 data_start v = (data_mapping v.head.mappings).address
-
-abbrev pub address_of : View → ChainWord → ℕ
-address_of v w = data_start v + w.offset
 
 -- a segment of data, which may be read and written, has an address
 abbrev pub has_data : ℕ → Seg → Bool

@@ -30,7 +30,7 @@ fn is_crossed(bounds: &Bounds, address: u64) -> bool
 }
 
 /// The number of the section of an image's segment that has the word at an address.
-fn section_at(image: &Image<'_>, segment: u32, address: u64) -> Option<u32>
+pub(crate) fn section_at(image: &Image<'_>, segment: u32, address: u64) -> Option<u32>
     ensures { result ≡ places.section_at image.now.sections segment address }
 {
     image.facts();

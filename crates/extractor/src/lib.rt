@@ -4,6 +4,7 @@
 
 mod bounds;
 mod chain;
+mod free;
 mod homes;
 mod links;
 mod pointers;
