@@ -1,6 +1,6 @@
 -- What is found of chain words by the addresses that are bound is what is found by the binds.
 use Rattle.std.proofs.Common.{◌≡◌, ◌≤◌, ◌<◌, ℕ, zero, suc, ◌+◌, ◌-◌, ◌%◌, Bool, true, false, not, ◌&&◌, ◌||◌, nat_eq, nat_le, nat_lt, Option, Some, None, List, [], ◌∷◌, ◌++◌, map, length, get_or, refl, sym, ap, ap₂, ◌∙◌, subst, arith, if◌then◌else◌, inl, inr}
-use Rattle.std.specs.Prelude.{slice_get, is_none}
+use Rattle.std.specs.Prelude.{slice_get, is_some}
 use Rattle.std.specs.List.{list_any, All}
 use Rattle.std.proofs.lemmas.Bool.{cases_Bool}
 use Rattle.std.proofs.lemmas.Bool.Decides.{nat_tests}
@@ -10,8 +10,9 @@ use Rattle.dsc_base.specs.declared.fault.Finding.{Finding}
 use Rattle.dsc_base.specs.declared.finding_kind.FindingKind.TheVariants.{ChainOutside, ForeignPointer}
 use Rattle.macho_image.specs.Records.{Seg, Img}
 use Rattle.macho_image.specs.Order.{is_near}
-use Rattle.macho_image.specs.Places.{section_at, IsWord}
+use Rattle.macho_image.specs.Places.{place_fault, IsWord}
 use Rattle.bind_ops.specs.Records.{BoundWord}
+use Rattle.rebase_ops.specs.Writing.{offset_in}
 use Rattle.bind_ops.specs.declared.kind.StreamKind.TheVariants.{Bind, Lazy}
 use Rattle.bind_ops.specs.Binds.{binds_of, AreBinds}
 use Rattle.bind_ops.specs.Clash.{is_skew}
@@ -72,7 +73,7 @@ crossed (b ∷ bs) a own aligned low =
 
 outside_same : (i : Img) (binds : List BoundWord) (bound : List ℕ) (g a : ℕ) → AreAddresses binds bound → AreFours binds → IsAddress a → tried.is_outside i bound g a ≡ spec.is_outside i binds g a
 outside_same i binds bound g a are own address =
-    ap (λ (x : Bool). nat_lt 15 g || (not i.has_dyld_info || (is_none (section_at i.sections g a) || x)))
+    ap (λ (x : Bool). nat_lt 15 g || (not i.has_dyld_info || (is_some (place_fault i (Some g) (offset_in i g a) 0) || x)))
     (ap₂ (λ (x y : Bool). x || y) (are (a - 4)) (are (a + 4)) ∙ crossed binds a own address.aligned address.low)
 
 foreign_same : (segments : List Seg) (binds : List BoundWord) (bound : List ℕ) (a value : ℕ) → AreAddresses binds bound → tried.is_foreign segments bound a value ≡ spec.is_foreign segments binds a value

@@ -9,3 +9,4 @@ pub mod PointerLaws
 pub mod ReadLaws
 pub mod SetLaws
 pub mod SumsLaws
+pub mod WritableLaws

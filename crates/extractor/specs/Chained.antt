@@ -1,11 +1,12 @@
 -- What the code tries of chain words, with the addresses at which each image binds.
-use Rattle.std.specs.Prelude.{◌≡◌, ◌≤◌, ◌<◌, ℕ, ◌+◌, ◌-◌, ◌%◌, ◌^◌, Bool, true, false, not, ◌&&◌, ◌||◌, nat_eq, nat_lt, is_none, if◌then◌else◌, List, length, map, Option, Some, None, slice_get, slice_index_or}
+use Rattle.std.specs.Prelude.{◌≡◌, ◌≤◌, ◌<◌, ℕ, ◌+◌, ◌-◌, ◌%◌, ◌^◌, Bool, true, false, not, ◌&&◌, ◌||◌, nat_eq, nat_lt, is_some, if◌then◌else◌, List, length, map, Option, Some, None, slice_get, slice_index_or}
 use Rattle.std.specs.List.{list_any}
 use Rattle.dsc_base.specs.declared.fault.Finding.{Finding}
 use Rattle.dsc_base.specs.declared.finding_kind.FindingKind.TheVariants.{ChainOutside, ForeignPointer}
 use Rattle.macho_image.specs.Records.{Seg, Img}
-use Rattle.macho_image.specs.Places.{section_at}
+use Rattle.macho_image.specs.Places.{place_fault}
 use Rattle.bind_ops.specs.Records.{BoundWord}
+use Rattle.rebase_ops.specs.Writing.{offset_in}
 use Rattle.prebind.specs.Sets.{StreamLists}
 use Rattle.prebind.specs.Words.{streams_in, is_bound}
 use Rattle.slide_chain.specs.declared.words.ChainWord.{ChainWord}
@@ -42,7 +43,7 @@ abbrev pub is_crossed : List ℕ → ℕ → Bool
 is_crossed bound address = has bound (address - 4) || has bound (address + 4)
 
 abbrev pub is_outside : Img → List ℕ → ℕ → ℕ → Bool
-is_outside i bound g address = nat_lt 15 g || (not i.has_dyld_info || (is_none (section_at i.sections g address) || is_crossed bound address))
+is_outside i bound g address = nat_lt 15 g || (not i.has_dyld_info || (is_some (place_fault i (Some g) (offset_in i g address) 0) || is_crossed bound address))
 
 abbrev pub outside_in : Option Img → Option (List ℕ) → ℕ → ℕ → Bool
 outside_in None bound g address = true

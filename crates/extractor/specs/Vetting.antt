@@ -1,5 +1,5 @@
 -- What may be wrong with a cache whose images keep the rules by themselves: how they are linked, where chain words lie and where words lead.
-use Rattle.std.specs.Prelude.{ℕ, ◌+◌, Bool, true, false, not, ◌&&◌, ◌||◌, nat_eq, nat_le, nat_lt, is_none, if◌then◌else◌, List, [], ◌∷◌, length, map, Option, Some, None, option_map, position, slice_get}
+use Rattle.std.specs.Prelude.{ℕ, ◌+◌, Bool, true, false, not, ◌&&◌, ◌||◌, nat_eq, nat_le, nat_lt, is_some, if◌then◌else◌, List, [], ◌∷◌, length, map, Option, Some, None, option_map, position, slice_get}
 use Rattle.std.specs.List.{list_any}
 use Rattle.std.specs.Option.{option_or}
 use Rattle.dsc_base.specs.Refusals.{first_break, in_image}
@@ -10,10 +10,11 @@ use Rattle.dsc_base.specs.declared.finding_kind.FindingKind.{FindingKind}
 use Rattle.dsc_base.specs.declared.finding_kind.FindingKind.TheVariants.{LinkBroken, ChainOutside, PointerNotSymbol, ForeignPointer, ExtractTooLarge}
 use Rattle.macho_image.specs.Records.{Seg, Img}
 use Rattle.macho_image.specs.Rules.{is_linkedit_segment}
-use Rattle.macho_image.specs.Places.{wrap, section_at}
+use Rattle.macho_image.specs.Places.{wrap, place_fault}
 use Rattle.macho_image.specs.Segments.{start_of, segments_at, value_of}
 use Rattle.macho_image.specs.declared.place.Location.{Location}
 use Rattle.bind_ops.specs.Records.{BoundWord}
+use Rattle.rebase_ops.specs.Writing.{offset_in}
 use Rattle.dep_closure.specs.Linked.{links_of}
 use Rattle.dep_closure.specs.Breaks.{link_break}
 use Rattle.prebind.specs.declared.resolved.WordTarget.{WordTarget}
@@ -81,9 +82,9 @@ unfoldable pub by_image : List (Option Finding) → Option Finding
 by_image [] = None
 by_image (found ∷ others) = earlier found (by_image others)
 
--- `ChainOutside`: a chain word isn't wholly in one section of a segment of data with a number up to 15, crosses a bind, or its image has no dyld info
+-- `ChainOutside`: a chain word isn't wholly in one section of a segment of data with a number up to 15, where a rebase could name it, or it crosses a bind, or its image has no dyld info
 abbrev pub is_outside : Img → List BoundWord → ℕ → ℕ → Bool
-is_outside i binds g address = nat_lt 15 g || (not i.has_dyld_info || (is_none (section_at i.sections g address) || is_crossed binds address))
+is_outside i binds g address = nat_lt 15 g || (not i.has_dyld_info || (is_some (place_fault i (Some g) (offset_in i g address) 0) || is_crossed binds address))
 
 abbrev pub outside_in : List BoundWord → Option Img → ℕ → ℕ → Bool
 outside_in binds None g address = true

@@ -1,7 +1,8 @@
 // Where the chain words of a cache may lie, and where those may lead that aren't bound.
-ghost use Rattle.std.specs.Prelude.{◌≡◌, ◌≤◌, ◌<◌, ◌+◌, map, slice_get};
+ghost use Rattle.std.specs.Prelude.{◌≡◌, ◌≤◌, ◌<◌, ◌+◌, Some, is_some, map, slice_get};
 ghost use Rattle.std.specs.List.{list_any};
 ghost use Rattle.macho_image.specs.Places as places;
+ghost use Rattle.rebase_ops.specs.Writing.{offset_in};
 ghost use Rattle.extractor.specs.Chained as spec;
 ghost use Rattle.extractor.specs.Homes.{each_word};
 ghost use Rattle.extractor.specs.Placing.{home_of};
@@ -10,7 +11,7 @@ ghost use Rattle.extractor.specs.Vetting.{earlier, by_image, reaches};
 use crate::bounds::Bounds;
 use crate::homes::Home;
 use dsc_base::{Finding, FindingKind};
-use macho_image::{Image, Segment, section_around};
+use macho_image::{Image, Segment, locate, section_around};
 use slide_chain::ChainWord;
 
 /// The size of a word, and half of it, at whose multiples words stand.
@@ -37,6 +38,28 @@ pub(crate) fn section_at(image: &Image<'_>, segment: u32, address: u64) -> Optio
     section_around(&image.sections, segment, address, WORD)
 }
 
+/// How far an address lies above the start of an image's segment; 0 where there is no such segment.
+#[tactic(auto, unfolding(rebase_ops::specs::Writing::offset_in))]
+fn offset_in(image: &Image<'_>, segment: u32, address: u64) -> u64
+    ensures { result ≡ offset_in image.now segment address }
+{
+    match image.segments.get(segment as usize) {
+        Some(found) => address.saturating_sub(found.vmaddr),
+        None => 0,
+    }
+}
+
+/// Whether no record may name the word at an address of a segment.
+fn is_misplaced(image: &Image<'_>, segment: u32, address: u64) -> bool
+    ensures { result ≡ is_some (places.place_fault image.now (Some segment) (offset_in image.now segment address) 0) }
+{
+    let offset = offset_in(image, segment, address);
+    match locate(image, Some(segment), offset, 0) {
+        Ok(_) => false,
+        Err(_) => true,
+    }
+}
+
 /// Whether a chain word that begins in a segment of an image may not be there.
 fn is_outside(image: &Image<'_>, bounds: &Bounds, segment: u32, address: u64) -> bool
     requires { spec.IsAddress address }
@@ -44,7 +67,7 @@ fn is_outside(image: &Image<'_>, bounds: &Bounds, segment: u32, address: u64) ->
 {
     segment > LAST_SEGMENT
         || !image.has_dyld_info
-        || section_at(image, segment, address).is_none()
+        || is_misplaced(image, segment, address)
         || is_crossed(bounds, address)
 }
 
