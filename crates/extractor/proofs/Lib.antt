@@ -8,5 +8,6 @@ pub mod PlaceLaws
 pub mod PointerLaws
 pub mod ReadLaws
 pub mod SetLaws
+pub mod SizeLaws
 pub mod SumsLaws
 pub mod WritableLaws

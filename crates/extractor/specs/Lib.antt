@@ -5,5 +5,7 @@ pub mod Faults
 pub mod Free
 pub mod Homes
 pub mod Placing
+pub mod Pools
 pub mod Reading
+pub mod Sizes
 pub mod Vetting

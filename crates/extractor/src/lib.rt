@@ -8,6 +8,8 @@ mod free;
 mod homes;
 mod links;
 mod pointers;
+mod pool;
 mod set;
+mod sizes;
 mod symbols;
 mod words;
