@@ -6,6 +6,7 @@ pub mod FreeLaws
 pub mod HomeLaws
 pub mod PlaceLaws
 pub mod PointerLaws
+pub mod PreparedLaws
 pub mod ReadLaws
 pub mod SetLaws
 pub mod SizeLaws

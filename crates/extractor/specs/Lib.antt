@@ -6,6 +6,7 @@ pub mod Free
 pub mod Homes
 pub mod Placing
 pub mod Pools
+pub mod Prepared
 pub mod Reading
 pub mod Sizes
 pub mod Vetting

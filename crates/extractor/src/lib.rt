@@ -6,6 +6,7 @@ mod bounds;
 mod chain;
 mod free;
 mod homes;
+mod linkedit;
 mod links;
 mod pointers;
 mod pool;

@@ -11,7 +11,7 @@ ghost use Rattle.extractor.specs.Sizes.{Exceeds};
 use crate::sizes::{LINKEDIT_LIMIT, SizeFault};
 use dsc_base::NoMemory;
 use indexmap::IndexMap;
-use nlist_table::{Symbol, Tables};
+use nlist_table::Symbol;
 use std::alloc::Global;
 
 /// The names of a string pool, each with its index, in order, and how many bytes the pool has.
@@ -117,14 +117,14 @@ fn put_symbols<'a>(pool: &mut Pool<'a>, symbols: &[Symbol<'a>]) -> Result<(), Si
     Ok(())
 }
 
-/// The pool of the names of a table's symbols, in order.
-pub(crate) fn pool_of<'a>(alloc: Global, tables: &Tables<'a>) -> Result<Pool<'a>, SizeFault>
+/// The pool of the names of symbols, in order.
+pub(crate) fn pool_of<'a>(alloc: Global, symbols: &[Symbol<'a>]) -> Result<Pool<'a>, SizeFault>
     ensures pool { IfOk result IsPool }
-    ensures names { IfOk result (λ p. names_of p ≡ spec.pooled_behind [] (flat_map spec.symbol_names tables.now.symbols)) }
-    ensures cause { IfErr result (Exceeds (pool_len (spec.pooled_behind [] (flat_map spec.symbol_names tables.now.symbols)))) }
+    ensures names { IfOk result (λ p. names_of p ≡ spec.pooled_behind [] (flat_map spec.symbol_names symbols.now)) }
+    ensures cause { IfErr result (Exceeds (pool_len (spec.pooled_behind [] (flat_map spec.symbol_names symbols.now)))) }
 {
     let mut pool = empty_pool(alloc);
-    put_symbols(&mut pool, &tables.symbols)?;
+    put_symbols(&mut pool, symbols)?;
     Ok(pool)
 }
 
