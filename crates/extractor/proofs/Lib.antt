@@ -4,6 +4,7 @@ pub mod ChainLaws
 pub mod FirstLaws
 pub mod FreeLaws
 pub mod HomeLaws
+pub mod LimitLaws
 pub mod PlaceLaws
 pub mod PointerLaws
 pub mod PreparedLaws
@@ -11,4 +12,5 @@ pub mod ReadLaws
 pub mod SetLaws
 pub mod SizeLaws
 pub mod SumsLaws
+pub mod VetLaws
 pub mod WritableLaws

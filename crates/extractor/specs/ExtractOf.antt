@@ -122,9 +122,9 @@ unfoldable pub file_of : ℕ → Img → List Location → List ℕ
 file_of k i words = header_of k i words ++ (drop (length (header_of k i words)) (body_bytes i) ++ linkedit_of i words)
 
 -- how many bytes the linkedit of image k has there
-abbrev pub size_in : View → List Img → ℕ → Option Img → ℕ
-size_in v images k None = 0
-size_in v images k (Some i) = length (linkedit_of i (free_words (data_start v) v.words images k i))
+abbrev pub size_in : ℕ → List ChainWord → List Img → ℕ → Option Img → ℕ
+size_in start words images k None = 0
+size_in start words images k (Some i) = length (linkedit_of i (free_words start words images k i))
 
 abbrev pub file_in : View → ℕ → Option Img → List ℕ
 file_in v k None = []

@@ -9,4 +9,5 @@ pub mod Pools
 pub mod Prepared
 pub mod Reading
 pub mod Sizes
+pub mod Vets
 pub mod Vetting

@@ -151,11 +151,11 @@ foreign_finding start words set = by_image (map (foreign_of start set) words)
 
 -- ---- `ExtractTooLarge`: the linkedit of the file that is made of an image
 
-abbrev pub large_finding : View → ℕ → Entry → Option Finding
-large_finding v k e = if nat_lt linkedit_limit (size_in v (images_of v) k (slice_get (images_of v) k)) then Some (finding ExtractTooLarge k (header_place e)) else None
+unfoldable pub large_finding : ℕ → List ChainWord → List Img → ℕ → Entry → Option Finding
+large_finding start words images k e = if nat_lt linkedit_limit (size_in start words images k (slice_get images k)) then Some (finding ExtractTooLarge k (header_place e)) else None
 
 unfoldable pub size_finding : View → Option Finding
-size_finding v = each_of (large_finding v) 0 v.head.images
+size_finding v = each_of (large_finding (data_start v) v.words (images_of v)) 0 v.head.images
 
 -- ---- all of them, in their order
 

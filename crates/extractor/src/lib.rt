@@ -6,6 +6,7 @@ mod bounds;
 mod chain;
 mod free;
 mod homes;
+mod limits;
 mod linkedit;
 mod links;
 mod pointers;
@@ -13,4 +14,7 @@ mod pool;
 mod set;
 mod sizes;
 mod symbols;
+mod vetted;
 mod words;
+
+pub use vetted::{Vetted, vet};
