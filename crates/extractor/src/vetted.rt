@@ -1,6 +1,7 @@
 // A cache that was vetted whole.
-ghost use Rattle.std.specs.Prelude.{◌≡◌, IfOk};
+ghost use Rattle.std.specs.Prelude.{◌≡◌, position, IfOk};
 ghost use Rattle.dsc_base.specs.Refusals.{RefusesView};
+ghost use Rattle.macho_image.specs.Rules.{same_bytes};
 ghost use Rattle.cache_check.specs.Shape.{data_mapping};
 ghost use Rattle.extractor.specs.Placing.{data_start};
 ghost use Rattle.extractor.specs.Vetting.{vet_finding};
@@ -105,4 +106,37 @@ pub fn vet(alloc: Global, view: &CacheView) -> Result<Vetted<'_>, ViewFault>
         links: linked.links,
         free,
     })
+}
+
+/// Whether the path of an image in the tables is this one.
+fn has_path(entry: &TableImage, path: &[u8]) -> bool
+    ensures { result ≡ same_bytes path.now entry.now.path }
+{
+    path == entry.path.as_slice()
+}
+
+fn position_of(entries: &[TableImage], path: &[u8]) -> Option<usize>
+    ensures { result ≡ position (λ e. same_bytes path.now e.path) entries.now }
+{
+    entries.iter().position(|entry| has_path(entry, path))
+}
+
+/// The number of the first image of a cache with a path.
+fn number_in(view: &CacheView, path: &[u8]) -> Option<u32>
+    ensures { result ≡ position (λ e. same_bytes path.now e.path) view.now.head.images }
+{
+    view.facts();
+    match position_of(entries_of(view), path) {
+        Some(number) => Some(number as u32),
+        None => None,
+    }
+}
+
+impl<'a> Vetted<'a> {
+    /// The number of the first image whose path in the tables is this one; `None` where no image has it.
+    pub fn number(&self, path: &[u8]) -> Option<u32>
+        ensures { result ≡ position (λ e. same_bytes path.now e.path) self.now.view.head.images }
+    {
+        number_in(self.view, path)
+    }
 }
