@@ -123,13 +123,7 @@ fn earlier(found: Option<Finding>, others: Option<Finding>) -> Option<Finding>
     match (found, others) {
         (None, others) => others,
         (Some(f), None) => Some(f),
-        (Some(f), Some(g)) => {
-            if g.image < f.image {
-                Some(g)
-            } else {
-                Some(f)
-            }
-        }
+        (Some(f), Some(g)) => { if g.image < f.image { Some(g) } else { Some(f) } }
     }
 }
 
@@ -178,13 +172,7 @@ fn is_foreign(image: &Image<'_>, bounds: &Bounds, address: u64, value: u64) -> b
     !bounds.has(address) && !reaches_any(&image.segments, value)
 }
 
-fn foreign_in(
-    images: &[Image<'_>],
-    bounds: &[Bounds],
-    home: Home,
-    address: u64,
-    value: u64,
-) -> bool
+fn foreign_in(images: &[Image<'_>], bounds: &[Bounds], home: Home, address: u64, value: u64) -> bool
     ensures { result ≡ spec.foreign_in (slice_get images.now home.image) (slice_get bounds.now home.image) address value }
 {
     match images.get(home.image as usize) {

@@ -127,12 +127,7 @@ fn fill_image(
 }
 
 /// Notes the segments of data of all images, those of the first ones last.
-fn fill_images(
-    homes: &mut [Option<Home>],
-    words: &[ChainWord],
-    start: u64,
-    images: &[Image<'_>],
-)
+fn fill_images(homes: &mut [Option<Home>], words: &[ChainWord], start: u64, images: &[Image<'_>])
     requires rise { spec.Rise words.now }
     requires few { length images.now ≤ 4096 }
     requires none { homes.old ≡ replicate (length words.now) None }

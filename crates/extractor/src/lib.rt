@@ -18,3 +18,6 @@ mod vetted;
 mod words;
 
 pub use vetted::{Vetted, vet};
+
+#[cfg(test)]
+mod tests;

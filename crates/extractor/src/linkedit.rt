@@ -25,11 +25,7 @@ const SYMBOL: u64 = 16;
 const INDEX: u64 = 4;
 
 /// The rebase stream of some words; no bytes for none.
-fn rebase_bytes(
-    alloc: Global,
-    image: &Image<'_>,
-    words: &[Location],
-) -> Result<Vec<u8>, NoMemory>
+fn rebase_bytes(alloc: Global, image: &Image<'_>, words: &[Location]) -> Result<Vec<u8>, NoMemory>
     requires { CanBeWritten image.now words.now }
     ensures { IfOk result (λ v. v.items ≡ rebase_stream image.now words.now) }
 {

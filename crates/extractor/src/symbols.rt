@@ -142,10 +142,7 @@ pub(crate) fn check_all_exports(alloc: Global, set: &Set<'_, '_>) -> Result<(), 
 }
 
 /// The bound words of each image in the order of its binds, or the first image with a bind that breaks a rule.
-pub(crate) fn place_all(
-    alloc: Global,
-    set: &Set<'_, '_>,
-) -> Result<Vec<Vec<PlacedWord>>, SetFault>
+pub(crate) fn place_all(alloc: Global, set: &Set<'_, '_>) -> Result<Vec<Vec<PlacedWord>>, SetFault>
     requires sound { IsSoundSet (set_of set.now) }
     ensures placed { IfOk result (λ v. AreAllBound (set_of set.now) v.items) }
     ensures cause { RefusesSet (first_of (spec.symbol_break_in (set_of set.now)) (length set.now.images.now)) result }
