@@ -1,24 +1,21 @@
 -- What is found of chain words by the addresses that are bound is what is found by the binds.
-use Rattle.std.proofs.Common.{◌≡◌, ◌≤◌, ◌<◌, ℕ, zero, suc, ◌+◌, ◌-◌, ◌%◌, Bool, true, false, not, ◌&&◌, ◌||◌, nat_eq, nat_le, nat_lt, Option, Some, None, List, [], ◌∷◌, ◌++◌, map, length, get_or, refl, sym, ap, ap₂, ◌∙◌, subst, arith, if◌then◌else◌, inl, inr}
+use Rattle.std.proofs.Common.{◌≡◌, ◌≤◌, ℕ, zero, suc, ◌+◌, ◌-◌, ◌%◌, Bool, true, false, not, ◌&&◌, ◌||◌, nat_eq, nat_lt, Option, Some, None, List, [], ◌∷◌, ◌++◌, map, length, refl, sym, ap, ap₂, ◌∙◌, subst, arith, if◌then◌else◌}
 use Rattle.std.specs.Prelude.{slice_get, is_some}
 use Rattle.std.specs.List.{list_any, All}
-use Rattle.std.proofs.lemmas.Bool.{cases_Bool}
 use Rattle.std.proofs.lemmas.Bool.Decides.{nat_tests}
 use Rattle.std.proofs.lemmas.List.{length-map}
-use Rattle.std.proofs.lemmas.Option.{slice_get_cases}
 use Rattle.dsc_base.specs.declared.fault.Finding.{Finding}
 use Rattle.dsc_base.specs.declared.finding_kind.FindingKind.TheVariants.{ChainOutside, ForeignPointer}
 use Rattle.macho_image.specs.Records.{Seg, Img}
-use Rattle.macho_image.specs.Order.{is_near}
 use Rattle.macho_image.specs.Places.{place_fault, IsWord}
 use Rattle.bind_ops.specs.Records.{BoundWord}
 use Rattle.rebase_ops.specs.Writing.{offset_in}
 use Rattle.bind_ops.specs.declared.kind.StreamKind.TheVariants.{Bind, Lazy}
-use Rattle.bind_ops.specs.Binds.{binds_of, AreBinds}
+use Rattle.bind_ops.specs.Binds.{binds_of}
 use Rattle.bind_ops.specs.Clash.{is_skew}
 use Rattle.bind_ops.proofs.BindLaws.{accepted_binds}
-use Rattle.prebind.specs.Sets.{StreamLists, ImageSet, all_binds}
-use Rattle.prebind.specs.Words.{streams_in, is_bound}
+use Rattle.prebind.specs.Sets.{all_binds}
+use Rattle.prebind.specs.Words.{is_bound}
 use Rattle.slide_chain.specs.declared.words.ChainWord.{ChainWord}
 use Rattle.cache_header.specs.Findings.{finding}
 use Rattle.dsc_base.specs.Refusals.{IsViewRefusal}
@@ -27,7 +24,7 @@ use Rattle.dsc_base.specs.declared.fault.ViewFault.TheVariants.{Broken as Broken
 use Rattle.cache_check.specs.Images.{each_of}
 use Rattle.std.specs.Option.{option_or}
 use Rattle.extractor.specs.declared.homes.Home.{Home}
-use Rattle.extractor.specs.Placing.{home_of, crosses, is_crossed}
+use Rattle.extractor.specs.Placing.{home_of, is_crossed}
 use Rattle.extractor.specs.Reading.{IsRead, AreRead}
 use Rattle.extractor.specs.Chained as tried
 use Rattle.extractor.specs.Chained.{binds_at, has, AreAddresses, AreBounds, IsAddress, HaveAddresses}

@@ -1,13 +1,12 @@
 -- The words of images that slide and aren't bound, gathered word by word.
-use Rattle.std.proofs.Common.{◌≡◌, ◌≤◌, ◌<◌, ℕ, zero, suc, ◌+◌, Bool, true, false, not, ◌&&◌, nat_eq, Option, Some, None, List, [], ◌∷◌, ◌++◌, map, filter, take, length, get_or, replicate, Vec, Global, refl, sym, ap, ap₂, ◌∙◌, subst, arith, if◌then◌else◌, inl, inr, append_assoc}
-use Rattle.std.specs.Prelude.{slice_get, slice_set, unwrap_or}
+use Rattle.std.proofs.Common.{◌≡◌, ◌≤◌, ◌<◌, ℕ, zero, suc, ◌+◌, Bool, true, false, not, ◌&&◌, nat_eq, Option, Some, None, List, [], ◌∷◌, ◌++◌, map, filter, take, length, get_or, replicate, Vec, Global, refl, sym, ap, ap₂, ◌∙◌, subst, arith, if◌then◌else◌, inl, inr}
+use Rattle.std.specs.Prelude.{slice_get, slice_set}
 use Rattle.std.proofs.lemmas.Bool.{cases_Bool, eqb-true, eq-eqb, and_left, and_right}
 use Rattle.std.proofs.lemmas.List.{length-map, length-set, get_or-set_same, get_or-set_other, append-nil, map-append, length-replicate, get_or-replicate, take_all, take_more}
 use Rattle.std.proofs.lemmas.List.Elements.{filter-append}
 use Rattle.std.proofs.lemmas.Option.{slice_get_read, slice_get_within}
 use Rattle.macho_image.specs.Records.{Seg, Img}
 use Rattle.macho_image.specs.declared.place.Location.{Location}
-use Rattle.macho_image.specs.Places.{section_at}
 use Rattle.bind_ops.specs.Records.{BoundWord}
 use Rattle.prebind.specs.Sets.{all_binds}
 use Rattle.prebind.specs.Words.{is_bound}
@@ -16,7 +15,7 @@ use Rattle.extractor.specs.declared.homes.Home.{Home}
 use Rattle.extractor.specs.Placing.{has_data, home_in, or_else, home_from, home_of}
 use Rattle.extractor.specs.ExtractOf.{is_home, is_free, location_at, location_of, free_words}
 use Rattle.extractor.specs.Free.{lists, AreFree, AreGrown}
-use Rattle.extractor.specs.Chained.{has, AreAddresses, AreBounds}
+use Rattle.extractor.specs.Chained.{has, AreBounds}
 use Rattle.extractor.specs.Vetting.{cached_lists}
 use Rattle.extractor.proofs.ChainLaws.{binds_are}
 

@@ -1,18 +1,16 @@
 -- Where the chain words of a view are: they rise, at multiples of four, in the data.
-use Rattle.std.proofs.Common.{◌≡◌, ◌≤◌, ◌<◌, ℕ, zero, suc, ◌+◌, ◌-◌, ◌%◌, ◌^◌, Some, None, List, [], ◌∷◌, map, length, get_or, refl, sym, ap, ◌∙◌, subst, arith, inl, inr}
-use Rattle.std.specs.List.Sorted.{IsNonDecreasingBy}
+use Rattle.std.proofs.Common.{◌≡◌, ◌≤◌, ◌<◌, ℕ, zero, suc, ◌+◌, ◌%◌, List, [], ◌∷◌, length, get_or, sym, subst, arith, inl, inr}
 use Rattle.std.proofs.lemmas.Bool.{cases_lt}
 use Rattle.dsc_base.specs.Region.{region_start}
 use Rattle.slide_chain.specs.declared.words.ChainWord.{ChainWord}
 use Rattle.slide_chain.specs.Making.{AreWords, AllBelow}
 use Rattle.cache_header.specs.declared.head.Mapping.{Mapping}
-use Rattle.load_model.specs.Mapped.{three_mappings}
 use Rattle.cache_check.specs.Shape.{data_mapping}
 use Rattle.cache_check.specs.Views.{View, offsets_of, IsSoundView}
 use Rattle.cache_check.proofs.ShapeLaws.{AreThree, three_are, whole_tests}
 use Rattle.extractor.specs.Placing.{data_start}
 use Rattle.extractor.specs.Homes.{Rise}
-use Rattle.extractor.specs.Chained.{IsAddress, HaveAddresses}
+use Rattle.extractor.specs.Chained.{HaveAddresses}
 
 -- one word
 pub record IsWordAt (from end offset : ℕ) : Type 0 where

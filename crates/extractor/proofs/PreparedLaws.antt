@@ -1,19 +1,18 @@
 -- The parts of a linkedit of its own, and their sizes.
-use Rattle.std.proofs.Common.{◌≡◌, ◌≤◌, ◌<◌, ℕ, zero, suc, ◌+◌, ◌*◌, List, [], ◌∷◌, ◌++◌, map, length, refl, sym, ap, ap₂, ◌∙◌, subst, arith, length-append}
+use Rattle.std.proofs.Common.{◌≡◌, ◌≤◌, ℕ, suc, ◌+◌, ◌*◌, List, [], ◌∷◌, length, refl, sym, ap, ap₂, ◌∙◌, arith, length-append}
 use Rattle.std.specs.List.{flat_map}
 use Rattle.std.proofs.lemmas.List.{append-nil}
 use Rattle.dsc_base.specs.Numbers.{little_bytes}
 use Rattle.macho_image.specs.Records.{Img}
 use Rattle.macho_image.specs.declared.place.Location.{Location}
 use Rattle.nlist_table.specs.Symbols.{Sym, Tabs, tables_of}
-use Rattle.linkedit_merge.specs.Linkedit.{symbol_bytes, parts_of, tables_in, pool_of, all_symbols, all_indirect}
-use Rattle.linkedit_merge.specs.Parts.{end_with, end_behind, joined, lens_of}
+use Rattle.linkedit_merge.specs.Linkedit.{symbol_bytes, parts_of, pool_of, all_symbols, all_indirect}
+use Rattle.linkedit_merge.specs.Parts.{end_with, end_behind, lens_of}
 use Rattle.linkedit_merge.specs.Pool.{pooled_behind, pool_bytes, symbol_names}
 use Rattle.linkedit_merge.specs.Indices.{pool_len}
-use Rattle.linkedit_merge.proofs.PartLaws.{length-joined, end_with-rises, end-rises}
+use Rattle.linkedit_merge.proofs.PartLaws.{length-joined, end-rises}
 use Rattle.linkedit_merge.proofs.SizeLaws.{end_with-covers}
-use Rattle.extractor.specs.declared.sizes.SizeFault.{SizeFault}
-use Rattle.extractor.specs.ExtractOf.{rebase_stream, share_of, linkedit_parts, linkedit_of, linkedit_limit}
+use Rattle.extractor.specs.ExtractOf.{rebase_stream, share_of, linkedit_parts, linkedit_of}
 use Rattle.extractor.specs.Prepared.{names_in, own_parts, own_lens, own_size, table_size}
 
 -- ---- the parts of an image

@@ -1,13 +1,9 @@
 -- Images of a cache of which nothing is found are read, and make a sound set.
-use Rattle.std.proofs.Common.{◌≡◌, ◌≤◌, ◌<◌, ℕ, zero, suc, ◌+◌, Bool, true, false, nat_eq, Option, Some, None, List, [], ◌∷◌, map, length, get_or, refl, sym, ap, ap₂, ◌∙◌, subst, arith, if◌then◌else◌, inl, inr}
-use Rattle.std.specs.Prelude.{slice_get}
-use Rattle.std.specs.List.{All}
+use Rattle.std.proofs.Common.{◌≡◌, ℕ, ◌+◌, Bool, true, false, nat_eq, Option, Some, None, List, [], ◌∷◌, length, refl, arith, if◌then◌else◌}
 use Rattle.std.specs.Option.{option_or}
 use Rattle.std.proofs.lemmas.Bool.{eqb-true}
 use Rattle.std.proofs.lemmas.List.Elements.{All-cons, All-nil}
-use Rattle.dsc_base.specs.Refusals.{first_break}
 use Rattle.dsc_base.specs.RuleNames.{number_of}
-use Rattle.dsc_base.specs.declared.fault.Finding.{Finding}
 use Rattle.dsc_base.specs.declared.fault.Site.{Site}
 use Rattle.dsc_base.specs.declared.finding_kind.FindingKind.TheVariants.{StreamBroken}
 use Rattle.dsc_base.specs.declared.rule.Rule.TheVariants.{RebaseBadUleb}

@@ -1,11 +1,9 @@
 -- The set that the images of a cache make.
-use Rattle.std.proofs.Common.{◌≡◌, ◌≤◌, ◌<◌, ℕ, zero, suc, ◌+◌, Option, Some, None, List, [], ◌∷◌, ◌++◌, map, length, get_or, refl, sym, ap, ap₂, ◌∙◌, subst, arith, inl, inr}
+use Rattle.std.proofs.Common.{◌≡◌, ◌≤◌, ℕ, zero, suc, Option, Some, None, List, [], ◌∷◌, map, length, refl, sym, ap, ap₂, ◌∙◌, subst, arith, inr}
 use Rattle.std.specs.Prelude.{slice_get}
 use Rattle.std.specs.Option.{option_or}
-use Rattle.std.specs.List.{All}
 use Rattle.std.proofs.lemmas.List.{length-map}
 use Rattle.dsc_base.specs.declared.fault.Break.{Break}
-use Rattle.dsc_base.specs.declared.fault.Site.{Site}
 use Rattle.dsc_base.specs.declared.fault.SetFault.{SetFault}
 use Rattle.dsc_base.specs.declared.fault.SetFault.TheVariants.{Broken, Memory}
 use Rattle.dsc_base.specs.Refusals.{IsSetRefusal}

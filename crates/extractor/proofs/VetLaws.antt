@@ -1,6 +1,5 @@
 -- A cache that is vetted: which finding comes first, and what is true where there is none.
-use Rattle.std.proofs.Common.{◌≡◌, ◌≤◌, ℕ, Option, Some, None, List, [], ◌∷◌, map, length, get_or, refl, sym, ap, ap₂, ◌∙◌, subst, arith}
-use Rattle.std.specs.Prelude.{slice_get}
+use Rattle.std.proofs.Common.{◌≡◌, ◌≤◌, ℕ, Option, None, List, length, refl, sym, ap, ap₂, ◌∙◌, subst, arith}
 use Rattle.std.specs.Option.{option_or}
 use Rattle.dsc_base.specs.Refusals.{IsViewRefusal}
 use Rattle.dsc_base.specs.declared.fault.Finding.{Finding}
@@ -18,7 +17,7 @@ use Rattle.extractor.specs.ExtractOf.{free_words}
 use Rattle.extractor.specs.Free.{AreFree, AllWritable}
 use Rattle.extractor.specs.Placing.{data_start}
 use Rattle.extractor.specs.Reading.{AreRead}
-use Rattle.extractor.specs.Vetting.{cached_set, link_finding, chain_finding, pointer_finding, foreign_finding, words_finding, large_finding, size_finding, vet_finding}
+use Rattle.extractor.specs.Vetting.{cached_set, link_finding, chain_finding, words_finding, large_finding, size_finding, vet_finding}
 use Rattle.extractor.proofs.PlaceLaws.{addresses}
 use Rattle.extractor.proofs.ReadLaws.{neither, images_read}
 use Rattle.extractor.proofs.WritableLaws.{can_be_written}

@@ -1,20 +1,20 @@
 -- The chain words of an image that aren't bound can be written as rebases.
-use Rattle.std.proofs.Common.{◌≡◌, ◌≤◌, ◌<◌, ℕ, zero, suc, ◌+◌, ◌-◌, ◌%◌, ◌^◌, Bool, true, false, not, ◌&&◌, ◌||◌, nat_eq, nat_le, nat_lt, Option, Some, None, List, [], ◌∷◌, map, filter, length, get_or, refl, sym, ap, ap₂, ◌∙◌, subst, arith, if◌then◌else◌, inl, inr}
+use Rattle.std.proofs.Common.{◌≡◌, ◌≤◌, ◌<◌, ℕ, zero, suc, ◌+◌, ◌-◌, ◌^◌, Bool, true, false, not, ◌||◌, nat_eq, nat_le, nat_lt, Option, Some, None, List, [], ◌∷◌, map, filter, length, get_or, refl, sym, ap, ◌∙◌, subst, arith, if◌then◌else◌, inl, inr}
 use Rattle.std.specs.Prelude.{slice_get, is_some, unwrap_or}
 use Rattle.std.specs.List.{All}
-use Rattle.std.proofs.lemmas.Bool.{cases_Bool, cases_lt, eqb-true, leb-true, ltb-true, le-ltb, lt-ltb, and_parts, false≢true}
+use Rattle.std.proofs.lemmas.Bool.{cases_lt, eqb-true, leb-true, lt-ltb, and_parts, false≢true}
 use Rattle.std.proofs.lemmas.List.Elements.{All-cons, All-nil}
 use Rattle.dsc_base.specs.declared.fault.Finding.{Finding}
 use Rattle.dsc_base.specs.declared.finding_kind.FindingKind.TheVariants.{ChainOutside}
 use Rattle.macho_image.specs.Records.{Seg, Img}
 use Rattle.macho_image.specs.declared.place.Location.{Location}
 use Rattle.macho_image.specs.declared.places.record.PlaceFault.{PlaceFault}
-use Rattle.macho_image.specs.Places.{wrap, address_in, section_at, place_fault, location, location_in, IsWord}
+use Rattle.macho_image.specs.Places.{wrap, section_at, place_fault, location, location_in, IsWord}
 use Rattle.macho_image.specs.Segments.{contains}
 use Rattle.macho_image.proofs.WordLaws.{accepted_one}
 use Rattle.bind_ops.specs.Records.{BoundWord}
 use Rattle.rebase_ops.specs.Writing.{offset_in, offset_from, CanBeWritten}
-use Rattle.prebind.specs.Sets.{ImageSet, all_binds}
+use Rattle.prebind.specs.Sets.{all_binds}
 use Rattle.prebind.specs.Words.{streams_at, is_bound}
 use Rattle.slide_chain.specs.declared.words.ChainWord.{ChainWord}
 use Rattle.slide_chain.specs.Making.{AreWords}
@@ -23,7 +23,7 @@ use Rattle.cache_check.specs.Views.{offsets_of}
 use Rattle.extractor.specs.declared.homes.Home.{Home}
 use Rattle.extractor.specs.Placing.{has_data, home_in, or_else, home_from, home_of, is_crossed}
 use Rattle.extractor.specs.ExtractOf.{is_home, is_free, location_at, location_of, free_words}
-use Rattle.extractor.specs.Chained.{IsAddress, HaveAddresses}
+use Rattle.extractor.specs.Chained.{HaveAddresses}
 use Rattle.extractor.specs.Vetting.{cached_set, earlier, by_image, outside_in, outside_at, outside_of, is_outside, chain_finding}
 
 -- ---- the segment of a home

@@ -1,5 +1,5 @@
 -- What the code tries of chain words, with the addresses at which each image binds.
-use Rattle.std.specs.Prelude.{◌≡◌, ◌≤◌, ◌<◌, ℕ, ◌+◌, ◌-◌, ◌%◌, ◌^◌, Bool, true, false, not, ◌&&◌, ◌||◌, nat_eq, nat_lt, is_some, if◌then◌else◌, List, length, map, Option, Some, None, slice_get, slice_index_or}
+use Rattle.std.specs.Prelude.{◌≡◌, ◌≤◌, ◌<◌, ℕ, ◌+◌, ◌-◌, ◌%◌, ◌^◌, Bool, true, not, ◌&&◌, ◌||◌, nat_eq, nat_lt, is_some, if◌then◌else◌, List, length, Option, Some, None, slice_get, slice_index_or}
 use Rattle.std.specs.List.{list_any}
 use Rattle.dsc_base.specs.declared.fault.Finding.{Finding}
 use Rattle.dsc_base.specs.declared.finding_kind.FindingKind.TheVariants.{ChainOutside, ForeignPointer}
@@ -13,7 +13,7 @@ use Rattle.slide_chain.specs.declared.words.ChainWord.{ChainWord}
 use Rattle.cache_header.specs.Findings.{finding}
 use Rattle.extractor.specs.declared.homes.Home.{Home}
 use Rattle.extractor.specs.Placing.{home_of}
-use Rattle.extractor.specs.Vetting.{by_image, reaches}
+use Rattle.extractor.specs.Vetting.{reaches}
 
 -- of each image the addresses of the words that it binds
 abbrev pub binds_at : List StreamLists → ℕ → List BoundWord

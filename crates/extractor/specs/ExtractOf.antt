@@ -1,5 +1,5 @@
 -- The file that is made of one image of a cache, after `mach-o/loader.h`: a dylib with a linkedit of its own.
-use Rattle.std.specs.Prelude.{ℕ, ◌+◌, ◌-◌, ◌*◌, Bool, false, not, ◌&&◌, nat_eq, if◌then◌else◌, List, [], ◌∷◌, ◌++◌, length, map, filter, drop, Option, Some, None, unwrap_or, slice_get}
+use Rattle.std.specs.Prelude.{ℕ, ◌+◌, ◌*◌, Bool, false, not, ◌&&◌, nat_eq, List, [], ◌∷◌, ◌++◌, length, map, filter, drop, Option, Some, None, unwrap_or, slice_get}
 use Rattle.std.specs.List.{flat_map}
 use Rattle.dsc_base.specs.Region.{padded, paged}
 use Rattle.macho_image.specs.Records.{Seg, Img}

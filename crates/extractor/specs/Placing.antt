@@ -1,13 +1,10 @@
 -- Where the chain words of a cache lie: in which image, and in which segment and section of it.
-use Rattle.std.specs.Prelude.{ℕ, ◌+◌, ◌-◌, Bool, ◌&&◌, ◌||◌, not, nat_eq, List, [], ◌∷◌, map, Option, Some, None, option_map, unwrap_or, slice_get, if◌then◌else◌}
+use Rattle.std.specs.Prelude.{ℕ, ◌+◌, Bool, ◌&&◌, nat_eq, List, [], ◌∷◌, Option, Some, None, if◌then◌else◌}
 use Rattle.std.specs.List.{list_any}
 use Rattle.macho_image.specs.Records.{Seg, Img}
-use Rattle.macho_image.specs.declared.place.Location.{Location}
-use Rattle.macho_image.specs.Places.{section_at}
 use Rattle.macho_image.specs.Segments.{contains}
 use Rattle.bind_ops.specs.Records.{BoundWord}
 use Rattle.bind_ops.specs.Clash.{is_skew}
-use Rattle.slide_chain.specs.declared.words.ChainWord.{ChainWord}
 use Rattle.cache_check.specs.Shape.{data_mapping}
 use Rattle.cache_check.specs.Views.{View}
 use Rattle.extractor.specs.declared.homes.Home.{Home}

@@ -1,15 +1,13 @@
 -- What the code makes ready for a linkedit of its own: the parts by what they are made of, and their sizes.
-use Rattle.std.specs.Prelude.{◌≡◌, ◌≤◌, ℕ, ◌*◌, List, [], ◌∷◌, length}
+use Rattle.std.specs.Prelude.{ℕ, ◌*◌, List, [], ◌∷◌, length}
 use Rattle.std.specs.List.{flat_map}
 use Rattle.dsc_base.specs.Numbers.{little_bytes}
 use Rattle.macho_image.specs.Records.{Img}
-use Rattle.macho_image.specs.declared.place.Location.{Location}
-use Rattle.nlist_table.specs.Symbols.{Tabs, tables_of}
+use Rattle.nlist_table.specs.Symbols.{Tabs}
 use Rattle.linkedit_merge.specs.Linkedit.{symbol_bytes}
 use Rattle.linkedit_merge.specs.Parts.{end_behind}
 use Rattle.linkedit_merge.specs.Pool.{pooled_behind, pool_bytes, symbol_names}
 use Rattle.linkedit_merge.specs.Indices.{pool_len}
-use Rattle.extractor.specs.ExtractOf.{rebase_stream, linkedit_of, linkedit_limit}
 
 -- the names of a table's symbols, in a pool
 abbrev pub names_in : Tabs → List (List ℕ)

@@ -1,5 +1,5 @@
 -- Images of a cache of which nothing is wrong by themselves: their streams are accepted.
-use Rattle.std.specs.Prelude.{◌≡◌, ℕ, List, [], length, Option, None}
+use Rattle.std.specs.Prelude.{◌≡◌, List, [], None}
 use Rattle.std.specs.List.{All}
 use Rattle.macho_image.specs.Records.{Img}
 use Rattle.macho_image.specs.Order.{addresses_of}

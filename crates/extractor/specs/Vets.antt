@@ -1,5 +1,5 @@
 -- A cache of which nothing is found, as contracts see it.
-use Rattle.std.specs.Prelude.{◌≡◌, ℕ, List, map, None}
+use Rattle.std.specs.Prelude.{◌≡◌, List, map, None}
 use Rattle.macho_image.specs.Records.{Img}
 use Rattle.macho_image.specs.declared.place.Location.{Location}
 use Rattle.dep_closure.specs.Linked.{Linked, links_of}

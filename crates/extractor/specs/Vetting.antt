@@ -1,18 +1,16 @@
 -- What may be wrong with a cache whose images keep the rules by themselves: how they are linked, where chain words lie and where words lead.
-use Rattle.std.specs.Prelude.{ℕ, ◌+◌, Bool, true, false, not, ◌&&◌, ◌||◌, nat_eq, nat_le, nat_lt, is_some, if◌then◌else◌, List, [], ◌∷◌, length, map, Option, Some, None, option_map, position, slice_get}
+use Rattle.std.specs.Prelude.{ℕ, ◌+◌, Bool, true, not, ◌&&◌, ◌||◌, nat_eq, nat_le, nat_lt, is_some, if◌then◌else◌, List, [], ◌∷◌, length, map, Option, Some, None, option_map, position, slice_get}
 use Rattle.std.specs.List.{list_any}
 use Rattle.std.specs.Option.{option_or}
 use Rattle.dsc_base.specs.Refusals.{first_break, in_image}
 use Rattle.dsc_base.specs.RuleNames.{number_of}
 use Rattle.dsc_base.specs.declared.fault.Break.{Break}
 use Rattle.dsc_base.specs.declared.fault.Finding.{Finding}
-use Rattle.dsc_base.specs.declared.finding_kind.FindingKind.{FindingKind}
 use Rattle.dsc_base.specs.declared.finding_kind.FindingKind.TheVariants.{LinkBroken, ChainOutside, PointerNotSymbol, ForeignPointer, ExtractTooLarge}
 use Rattle.macho_image.specs.Records.{Seg, Img}
 use Rattle.macho_image.specs.Rules.{is_linkedit_segment}
 use Rattle.macho_image.specs.Places.{wrap, place_fault}
 use Rattle.macho_image.specs.Segments.{start_of, segments_at, value_of}
-use Rattle.macho_image.specs.declared.place.Location.{Location}
 use Rattle.bind_ops.specs.Records.{BoundWord}
 use Rattle.rebase_ops.specs.Writing.{offset_in}
 use Rattle.dep_closure.specs.Linked.{links_of}

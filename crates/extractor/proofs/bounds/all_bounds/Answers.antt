@@ -1,4 +1,4 @@
-use Rattle.std.proofs.Common.{List, subst, sym, ap, ◌∙◌}
+use Rattle.std.proofs.Common.{List, subst, ap, ◌∙◌}
 use Rattle.bind_ops.specs.Records.{BoundWord}
 use Rattle.prebind.specs.Sets.{StreamLists}
 use Rattle.extractor.specs.Chained.{AreAddresses}

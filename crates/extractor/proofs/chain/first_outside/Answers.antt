@@ -1,9 +1,7 @@
-use Rattle.std.proofs.Common.{◌≡◌, ◌<◌, ◌+◌, ◌-◌, ℕ, Option, List, length, get_or, refl, sym, subst, ap, ap₂, ◌∙◌, arith, None}
-use Rattle.dsc_base.specs.declared.fault.Finding.{Finding}
+use Rattle.std.proofs.Common.{◌≡◌, ◌<◌, ◌+◌, ◌-◌, ℕ, Option, length, get_or, subst, ap, ◌∙◌, arith}
 use Rattle.slide_chain.specs.declared.words.ChainWord.{ChainWord}
 use Rattle.extractor.specs.declared.homes.Home.{Home}
 use Rattle.extractor.specs.Chained.{outside_of, outside_at}
-use Rattle.extractor.specs.Placing.{home_of}
 use Rattle.extractor.proofs.FirstLaws.{IsFirst, first_start, first_more, first_all}
 use Rattle.extractor.proofs.HomeLaws.{home_at, word_at, no_word}
 use Rattle.extractor.proofs.chain.first_outside.Goals as goal

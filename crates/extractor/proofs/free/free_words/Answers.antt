@@ -1,7 +1,7 @@
-use Rattle.std.proofs.Common.{◌+◌, get_or, arith, sym, refl, ◌∙◌, length}
+use Rattle.std.proofs.Common.{get_or, sym, ◌∙◌}
 use Rattle.extractor.specs.Free.{lists}
 use Rattle.extractor.proofs.HomeLaws.{home_at, word_at, no_word}
-use Rattle.extractor.proofs.FreeLaws.{free_start, free_next, free_all, lists_long}
+use Rattle.extractor.proofs.FreeLaws.{free_start, free_next, lists_long}
 use Rattle.extractor.proofs.free.free_words.Goals as goal
 
 pub loop-n-init : goal.loop-n-init

@@ -1,4 +1,4 @@
-use Rattle.std.proofs.Common.{◌<◌, ◌+◌, length, arith, sym, refl, ◌∙◌}
+use Rattle.std.proofs.Common.{◌+◌, arith, sym, ◌∙◌}
 use Rattle.std.proofs.lemmas.List.{length-map}
 use Rattle.extractor.specs.Free.{lists}
 use Rattle.extractor.specs.Vetting.{cached_lists}

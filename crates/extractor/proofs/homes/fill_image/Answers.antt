@@ -1,5 +1,4 @@
-use Rattle.std.proofs.Common.{◌<◌, ◌^◌, ℕ, List, length, get_or, ap, subst, sym, ◌∙◌}
-use Rattle.macho_image.specs.Breaks.{IsSound}
+use Rattle.std.proofs.Common.{◌<◌, ◌^◌, List, length, get_or, ap, subst, sym, ◌∙◌}
 use Rattle.macho_image.specs.Records.{Img, Seg}
 use Rattle.macho_image.proofs.SoundSegments.{few_segments}
 use Rattle.extractor.proofs.homes.fill_image.Goals as goal

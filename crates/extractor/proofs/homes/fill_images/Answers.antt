@@ -1,5 +1,4 @@
-use Rattle.std.proofs.Common.{◌≡◌, ◌+◌, ◌-◌, ℕ, length, refl, subst, sym, ap, ◌∙◌, arith, List}
-use Rattle.macho_image.specs.Records.{Img, Seg}
+use Rattle.std.proofs.Common.{◌≡◌, ◌+◌, ◌-◌, ℕ, length, subst, arith}
 use Rattle.extractor.proofs.HomeLaws.{AreHomes, homes_start, homes_more, homes_long, homes_all}
 use Rattle.extractor.proofs.homes.fill_images.Goals as goal
 

@@ -1,8 +1,8 @@
-use Rattle.std.proofs.Common.{◌≡◌, ◌+◌, ◌∙◌, ap, ap₂, sym, arith, subst, nat_eq, true}
+use Rattle.std.proofs.Common.{◌+◌, ◌∙◌, ap, ap₂, sym, arith, subst, nat_eq}
 use Rattle.std.proofs.lemmas.Bool.{eq-eqb}
-use Rattle.extractor.specs.Homes.{IsFirstFrom, Become, segment_first}
+use Rattle.extractor.specs.Homes.{IsFirstFrom}
 use Rattle.macho_image.specs.Records.{Seg}
-use Rattle.extractor.proofs.HomeLaws.{segment_filled, segment_kept, first_order}
+use Rattle.extractor.proofs.HomeLaws.{segment_filled, first_order}
 use Rattle.extractor.proofs.homes.fill_segment.Goals as goal
 
 pub fill_range-requires : goal.fill_range-requires

@@ -1,5 +1,5 @@
 use Rattle.std.proofs.Common.{◌≡◌, ◌+◌, ◌-◌, ℕ, length, refl, subst, arith}
-use Rattle.extractor.proofs.HomeLaws.{AreFilled, filled_start, filled_more}
+use Rattle.extractor.proofs.HomeLaws.{AreFilled, filled_more}
 use Rattle.extractor.proofs.homes.fill_segments.Goals as goal
 
 pub loop-n-preserved : goal.loop-n-preserved

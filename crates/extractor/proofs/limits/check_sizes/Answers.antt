@@ -1,8 +1,8 @@
-use Rattle.std.proofs.Common.{◌≡◌, ◌<◌, ◌≤◌, Some, length, arith, sym, refl, subst, ap, ◌∙◌}
+use Rattle.std.proofs.Common.{◌<◌, length, arith, subst, ◌∙◌}
 use Rattle.dsc_base.specs.declared.finding_kind.FindingKind.TheVariants.{ExtractTooLarge}
 use Rattle.cache_check.specs.Images.{header_place}
-use Rattle.cache_check.proofs.EachLaws.{clear_start, clear_more, clear_refused, clear_none, found_at}
-use Rattle.extractor.specs.ExtractOf.{linkedit_of, linkedit_limit}
+use Rattle.cache_check.proofs.EachLaws.{clear_more, clear_refused, clear_none, found_at}
+use Rattle.extractor.specs.ExtractOf.{linkedit_of}
 use Rattle.extractor.specs.Sizes.{Exceeds}
 use Rattle.extractor.specs.Vetting.{large_finding}
 use Rattle.extractor.proofs.FreeLaws.{lists_long}

@@ -1,4 +1,4 @@
-use Rattle.std.proofs.Common.{rules, ◌≡◌, ◌∙◌, ℕ, List, length, ap, subst, arith}
+use Rattle.std.proofs.Common.{rules, ◌≡◌, ◌∙◌, ℕ, List, length, ap, subst}
 use Rattle.std.specs.Prelude.{IfOk, IfErr}
 use Rattle.extractor.specs.ExtractOf.{rebase_stream}
 use Rattle.extractor.specs.Sizes.{IsSize, Exceeds}

@@ -1,10 +1,10 @@
-use Rattle.std.proofs.Common.{rules, ◌≡◌, ◌∙◌, ℕ, List, [], length, ap, ap₂, subst, arith}
+use Rattle.std.proofs.Common.{rules, ◌≡◌, ◌∙◌, ℕ, List, [], length, ap, subst, arith}
 use Rattle.std.specs.Prelude.{IfOk, IfErr}
 use Rattle.std.specs.List.{flat_map}
 use Rattle.nlist_table.specs.Symbols.{Sym, Tabs}
 use Rattle.linkedit_merge.specs.Indices.{pool_len}
 use Rattle.linkedit_merge.specs.Pool.{pooled_behind, symbol_names}
-use Rattle.extractor.specs.Prepared.{names_in, own_size, table_size}
+use Rattle.extractor.specs.Prepared.{names_in, table_size}
 use Rattle.extractor.specs.Sizes.{IsSize, Exceeds}
 use Rattle.extractor.proofs.SizeLaws.{exceeds_exit}
 use Rattle.extractor.proofs.PreparedLaws.{all_below, sized}

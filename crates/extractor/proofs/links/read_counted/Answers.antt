@@ -1,10 +1,9 @@
-use Rattle.std.proofs.Common.{◌≡◌, ◌+◌, ◌-◌, ◌^◌, List, length, ap, subst, sym, ◌∙◌, arith, rules}
+use Rattle.std.proofs.Common.{◌≡◌, ◌+◌, ◌-◌, ◌^◌, List, ap, subst, sym, ◌∙◌, arith, rules}
 use Rattle.std.specs.Prelude.{min, Option}
 use Rattle.dsc_base.specs.declared.fault.Site.{Site}
 use Rattle.dsc_base.specs.Refusals.{IsRefusal}
 use Rattle.export_trie.specs.declared.export.Export.{Export}
-use Rattle.prebind.specs.Sets.{StreamLists}
-use Rattle.load_model.specs.Sums.{count_in, bytes_in, name_bytes, sums_break}
+use Rattle.load_model.specs.Sums.{count_in, bytes_in, name_bytes}
 use Rattle.load_model.proofs.SumLaws.{capped_sums, few_sums, exact_sum}
 use Rattle.extractor.specs.Vetting.{cached_lists}
 use Rattle.extractor.proofs.links.read_counted.Goals as goal

@@ -1,4 +1,4 @@
-use Rattle.std.proofs.Common.{◌≡◌, ◌<◌, Some, None, Option, ℕ, length, arith, sym, refl, ap, ◌∙◌}
+use Rattle.std.proofs.Common.{◌<◌, Some, None, length, arith, sym, refl, ap, ◌∙◌}
 use Rattle.dsc_base.specs.declared.finding_kind.FindingKind.TheVariants.{PointerNotSymbol}
 use Rattle.macho_image.specs.Records.{Img}
 use Rattle.cache_check.proofs.EachLaws.{clear_start, clear_more, clear_refused, clear_none, found_at}

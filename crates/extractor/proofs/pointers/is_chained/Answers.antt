@@ -1,4 +1,4 @@
-use Rattle.std.proofs.Common.{◌∙◌, subst, arith, sym}
+use Rattle.std.proofs.Common.{◌∙◌, subst}
 use Rattle.extractor.specs.Homes.{IsFirstFrom}
 use Rattle.extractor.proofs.PointerLaws.{chained_past, chained_at}
 use Rattle.extractor.proofs.pointers.is_chained.Goals as goal

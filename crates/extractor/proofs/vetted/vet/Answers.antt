@@ -1,18 +1,13 @@
-use Rattle.std.proofs.Common.{◌≡◌, ◌∙◌, ℕ, List, Vec, Global, map, ap, ap₂, sym, subst, refl}
+use Rattle.std.proofs.Common.{◌∙◌, ℕ, List, Vec, Global, map, ap, sym, subst}
 use Rattle.std.proofs.lemmas.Result.{err_from_is_err_and}
 use Rattle.macho_image.specs.Records.{Img}
 use Rattle.macho_image.specs.declared.place.Location.{Location}
 use Rattle.slide_chain.specs.declared.words.ChainWord.{ChainWord}
-use Rattle.cache_header.specs.declared.head.Mapping.{Mapping}
-use Rattle.cache_header.specs.Records.{Head}
 use Rattle.dep_closure.specs.Breaks.{link_break}
 use Rattle.dep_closure.specs.Linked.{links_of}
-use Rattle.cache_check.specs.Shape.{data_mapping}
-use Rattle.cache_check.specs.Views.{View}
 use Rattle.extractor.specs.Chained.{HaveAddresses}
 use Rattle.extractor.specs.Free.{AreFree, AllWritable, lists}
 use Rattle.extractor.specs.Homes.{Rise}
-use Rattle.extractor.specs.Placing.{data_start}
 use Rattle.extractor.specs.Vetting.{cached_lists, cached_set, link_finding, words_finding}
 use Rattle.extractor.proofs.PlaceLaws.{words_rise, addresses}
 use Rattle.extractor.proofs.SetLaws.{cached_sound}

@@ -1,4 +1,4 @@
-use Rattle.std.proofs.Common.{◌≡◌, List, ℕ, map, ap, ap₂, sym, subst, ◌∙◌, None, Some}
+use Rattle.std.proofs.Common.{List, ℕ, map, sym, subst, ◌∙◌, None, Some}
 use Rattle.prebind.specs.Sets.{StreamLists}
 use Rattle.extractor.specs.Chained.{AreBounds}
 use Rattle.extractor.specs.Vetting.{cached_lists}
