@@ -1,0 +1,16 @@
+pub mod BoundLaws
+pub mod BoundsLaws
+pub mod ChainLaws
+pub mod FirstLaws
+pub mod FreeLaws
+pub mod HomeLaws
+pub mod LimitLaws
+pub mod PlaceLaws
+pub mod PointerLaws
+pub mod PreparedLaws
+pub mod ReadLaws
+pub mod SetLaws
+pub mod SizeLaws
+pub mod SumsLaws
+pub mod VetLaws
+pub mod WritableLaws

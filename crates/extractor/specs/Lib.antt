@@ -1,0 +1,13 @@
+pub mod Bound
+pub mod Chained
+pub mod ExtractOf
+pub mod Faults
+pub mod Free
+pub mod Homes
+pub mod Placing
+pub mod Pools
+pub mod Prepared
+pub mod Reading
+pub mod Sizes
+pub mod Vets
+pub mod Vetting

@@ -1,0 +1,23 @@
+//! Dylibs taken out of a shared cache: a cache is vetted whole, and each of its images is then made a file of
+//! its own, after `mach-o/loader.h` of Apple's published sources.
+#![tactic(auto)]
+
+mod bounds;
+mod chain;
+mod free;
+mod homes;
+mod limits;
+mod linkedit;
+mod links;
+mod pointers;
+mod pool;
+mod set;
+mod sizes;
+mod symbols;
+mod vetted;
+mod words;
+
+pub use vetted::{Vetted, vet};
+
+#[cfg(test)]
+mod tests;
