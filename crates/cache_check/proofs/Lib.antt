@@ -1,7 +1,10 @@
 pub mod CachedLaws
+pub mod DifferenceLaws
 pub mod EachLaws
+pub mod FirstLaws
 pub mod ImageLaws
 pub mod MarkLaws
+pub mod PartLaws
 pub mod PathLaws
 pub mod PlacedLaws
 pub mod ReachedLaws

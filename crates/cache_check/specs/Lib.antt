@@ -1,3 +1,5 @@
+pub mod Differences
+pub mod Firsts
 pub mod Images
 pub mod Inside
 pub mod Shape

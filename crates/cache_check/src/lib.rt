@@ -3,16 +3,21 @@
 //! `mach-o/loader.h` of Apple's published sources.
 #![tactic(auto)]
 
+mod comparing;
+mod exports;
 mod finding;
 mod images;
 mod names;
 mod read;
 mod segments;
 mod shape;
+mod shapes;
 mod streams;
+mod verdict;
 mod view;
 
 pub use read::read_cache;
+pub use verdict::{Difference, Seen, Verdict};
 pub use view::CacheView;
 
 #[cfg(test)]
