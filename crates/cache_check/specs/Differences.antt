@@ -1,5 +1,5 @@
 -- How the images of a cache differ from files in all but their sections' bytes: in their number, their paths, their shapes and their exports.
-use Rattle.std.specs.Prelude.{ℕ, ◌+◌, max, Bool, true, false, ◌&&◌, nat_eq, if◌then◌else◌, List, length, map, slice_get, slice_index, Option, Some, None}
+use Rattle.std.specs.Prelude.{ℕ, ◌+◌, max, Bool, true, false, ◌&&◌, nat_eq, if◌then◌else◌, List, length, map, slice_get, slice_index, Option, Some, None, option_map}
 use Rattle.macho_image.specs.Records.{Seg, Img}
 use Rattle.macho_image.specs.Rules.{same_bytes, is_linkedit_segment}
 use Rattle.macho_image.specs.Places.{wrap, above}
@@ -45,23 +45,31 @@ abbrev pub start_besides : Option Seg → ℕ
 start_besides None = 0
 start_besides (Some s) = if is_linkedit_segment s then 0 else s.vmaddr
 
-unfoldable pub cached_starts : List Img → Starts
-cached_starts cached k g = start_besides (slice_get (segments_at cached k) g)
+unfoldable pub own_start : List Seg → ℕ → ℕ
+own_start segments g = start_besides (slice_get segments g)
+
+abbrev pub cached_starts : List Img → Starts
+cached_starts cached k g = own_start (segments_at cached k) g
 
 -- ---- exports
 
 -- an offset from the header of a file as one from that of its cached image, to the same place
-abbrev pub moved_place : Starts → ℕ → Img → ℕ → Option Inside → ℕ
-moved_place starts k cached offset None = offset
-moved_place starts k cached offset (Some p) = above (header_address cached.segments) (wrap (starts k p.segment + p.distance))
+abbrev pub moved_place : (ℕ → ℕ) → ℕ → ℕ → Option Inside → ℕ
+moved_place starts header offset None = offset
+moved_place starts header offset (Some p) = above header (wrap (starts p.segment + p.distance))
 
-abbrev pub moved_target : Starts → ℕ → Img → Img → Target → Target
-moved_target starts k file cached (Offset o) = Offset (moved_place starts k cached o (inside file.segments (wrap (header_address file.segments + o))))
-moved_target starts k file cached other = other
+unfoldable pub moved_offset : Img → Img → ℕ → ℕ
+moved_offset file cached offset =
+    moved_place (own_start cached.segments) (header_address cached.segments) offset (inside file.segments (wrap (header_address file.segments + offset)))
 
--- an export of file k as its cached image should have it
-unfoldable pub moved_export : Starts → ℕ → Img → Img → ExportEntry → ExportEntry
-moved_export starts k file cached e = record { name = e.name; flags = e.flags; target = moved_target starts k file cached e.target }
+abbrev pub moved_target : (ℕ → ℕ) → Target → Target
+moved_target moved (Offset o) = Offset (moved o)
+moved_target moved (Absolute v) = Absolute v
+moved_target moved (Reexport ordinal name) = Reexport ordinal name
+
+-- an export of a file as its cached image should have it
+abbrev pub moved_export : (ℕ → ℕ) → ExportEntry → ExportEntry
+moved_export moved e = record { name = e.name; flags = e.flags; target = moved_target moved e.target }
 
 abbrev pub same_target : Target → Target → Bool
 same_target (Offset o) (Offset p) = nat_eq o p
@@ -74,14 +82,21 @@ same_export None None = true
 same_export (Some e) (Some f) = same_bytes e.name f.name && (nat_eq e.flags f.flags && same_target e.target f.target)
 same_export _ _ = false
 
-unfoldable pub export_difference : ℕ → List ExportEntry → List ExportEntry → ℕ → Option Difference
-export_difference k found wanted index =
-    if same_export (slice_get found index) (slice_get wanted index) then None else Some (Export k index (slice_get found index) (slice_get wanted index))
+-- a number at which two lists differ
+unfoldable pub other_at : List ExportEntry → List ExportEntry → ℕ → Option ℕ
+other_at found wanted index = if same_export (slice_get found index) (slice_get wanted index) then None else Some index
+
+abbrev pub export_at : ℕ → List ExportEntry → List ExportEntry → ℕ → Difference
+export_at k found wanted index = Export k index (slice_get found index) (slice_get wanted index)
+
+-- the first of them
+abbrev pub first_other : List ExportEntry → List ExportEntry → Option ℕ
+first_other found wanted = first_below (other_at found wanted) (max (length found) (length wanted))
 
 -- sorted lists of exports, by what each has at a number
-unfoldable pub listed_difference : ℕ → List ExportEntry → List ExportEntry → Option Difference
-listed_difference k found wanted = first_below (export_difference k found wanted) (max (length found) (length wanted))
+abbrev pub listed_difference : ℕ → List ExportEntry → List ExportEntry → Option Difference
+listed_difference k found wanted = option_map (export_at k found wanted) (first_other found wanted)
 
-unfoldable pub exports_difference : Starts → ℕ → Img → Img → Option Difference
-exports_difference starts k file cached =
-    listed_difference k (exports_of cached.streams.exports) (map (moved_export starts k file cached) (exports_of file.streams.exports))
+unfoldable pub exports_difference : ℕ → Img → Img → Option Difference
+exports_difference k file cached =
+    listed_difference k (exports_of cached.streams.exports) (map (moved_export (moved_offset file cached)) (exports_of file.streams.exports))
