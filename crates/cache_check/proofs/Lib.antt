@@ -9,6 +9,7 @@ pub mod PartLaws
 pub mod PathLaws
 pub mod PlacedLaws
 pub mod ReachedLaws
+pub mod SearchLaws
 pub mod ShapeLaws
 pub mod SlidLaws
 pub mod ViewLaws

@@ -1,4 +1,6 @@
 -- What the proofs alone speak of: how the calls come to what the contracts of this crate promise.
 pub mod Faults
+pub mod Matched
 pub mod Moving
 pub mod Pages
+pub mod Sides

@@ -3,18 +3,26 @@
 //! `mach-o/loader.h` of Apple's published sources.
 #![tactic(auto)]
 
+mod chains;
 mod comparing;
 mod exports;
 mod finding;
 mod images;
+mod lookup;
+mod matched;
+mod matching;
+mod mismatch;
 mod names;
+mod pairs;
 mod read;
+mod references;
 mod segments;
 mod shape;
 mod shapes;
 mod streams;
 mod verdict;
 mod view;
+mod words;
 
 pub use read::read_cache;
 pub use verdict::{Difference, Seen, Verdict};
