@@ -12,5 +12,6 @@ pub mod ReachedLaws
 pub mod SearchLaws
 pub mod ShapeLaws
 pub mod SlidLaws
+pub mod StrayLaws
 pub mod ViewLaws
 pub mod WholeLaws

@@ -130,12 +130,17 @@ pointer_here pointers address = find (λ (w : PlacedWord). nat_eq w.at.address a
 abbrev pub shares_section : ℕ → Section → Bool
 shares_section address s = nat_lt (max address s.addr) (min (address + 8) (s.addr + s.size))
 
--- a word that slides, shares a byte with the section, and doesn't begin where a pointer of the file leads to a place. It counts at the lowest byte that they share, and the file's 8 bytes from its start are wanted
+-- a word that slides at an address shares a byte with the section, and doesn't begin where a pointer of the file leads to a place
+abbrev pub is_stray : List PlacedWord → Pair → ℕ → Bool
+is_stray pointers p address = shares_section address p.there && not (leads_to_place (pointer_here pointers (wrap (p.here.addr + above p.there.addr address))))
+
+-- it counts at the lowest byte that they share, and the file's 8 bytes from its start are wanted
+abbrev pub stray : ℕ → Pair → ℕ → ℕ → Mismatch
+stray number p value address =
+    record { section = number; offset = address - p.there.addr; found = Address value; wanted = Number (number_in p.own (wrap (p.own.vmaddr + (address - p.cached.vmaddr)))) }
+
 abbrev pub stray_at : List PlacedWord → ℕ → Pair → ℕ → ℕ → Option Mismatch
-stray_at pointers number p value address =
-    if shares_section address p.there && not (leads_to_place (pointer_here pointers (wrap (p.here.addr + above p.there.addr address)))) then
-    Some (record { section = number; offset = address - p.there.addr; found = Address value; wanted = Number (number_in p.own (wrap (p.own.vmaddr + (address - p.cached.vmaddr)))) })
-    else None
+stray_at pointers number p value address = if is_stray pointers p address then Some (stray number p value address) else None
 
 unfoldable pub stray_of : Chains → List PlacedWord → ℕ → Pair → ℕ → Option Mismatch
 stray_of chains pointers number p i =

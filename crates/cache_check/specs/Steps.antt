@@ -1,4 +1,5 @@
 -- What the proofs alone speak of: how the calls come to what the contracts of this crate promise.
+pub mod Extents
 pub mod Faults
 pub mod Matched
 pub mod Moving

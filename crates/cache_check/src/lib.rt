@@ -6,6 +6,7 @@
 mod chains;
 mod comparing;
 mod exports;
+mod extents;
 mod finding;
 mod images;
 mod lookup;
@@ -19,6 +20,7 @@ mod references;
 mod segments;
 mod shape;
 mod shapes;
+mod strays;
 mod streams;
 mod verdict;
 mod view;
