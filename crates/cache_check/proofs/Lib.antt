@@ -2,6 +2,7 @@ pub mod CachedLaws
 pub mod DifferenceLaws
 pub mod EachLaws
 pub mod ExportLaws
+pub mod ExtentLaws
 pub mod FirstLaws
 pub mod ImageLaws
 pub mod MarkLaws
