@@ -4,6 +4,7 @@ pub mod EachLaws
 pub mod ExportLaws
 pub mod ExtentLaws
 pub mod FirstLaws
+pub mod GapLaws
 pub mod ImageLaws
 pub mod MarkLaws
 pub mod PartLaws

@@ -1,6 +1,7 @@
 -- What the proofs alone speak of: how the calls come to what the contracts of this crate promise.
 pub mod Extents
 pub mod Faults
+pub mod Gaps
 pub mod Matched
 pub mod Moving
 pub mod Pages

@@ -8,6 +8,7 @@ mod comparing;
 mod exports;
 mod extents;
 mod finding;
+mod gaps;
 mod images;
 mod lookup;
 mod matched;
