@@ -1,3 +1,4 @@
+pub mod ByteLaws
 pub mod CachedLaws
 pub mod DifferenceLaws
 pub mod EachLaws
@@ -6,7 +7,9 @@ pub mod ExtentLaws
 pub mod FirstLaws
 pub mod GapLaws
 pub mod ImageLaws
+pub mod LongLaws
 pub mod MarkLaws
+pub mod PairLaws
 pub mod PartLaws
 pub mod PathLaws
 pub mod PlacedLaws

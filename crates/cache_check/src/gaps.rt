@@ -2,7 +2,6 @@
 ghost use Rattle.std.specs.Prelude.{◌≡◌, ◌≤◌, ◌<◌, ◌+◌, ◌^◌, ℕ, None, IfSome, length, nat_eq, nat_le, nat_lt, slice_index_or};
 ghost use Rattle.std.specs.List.Sorted.{IsNonDecreasingBy};
 ghost use Rattle.cache_check.specs.Bytes as spec;
-ghost use Rattle.cache_check.specs.Firsts.{first_below};
 ghost use Rattle.cache_check.specs.Steps.Sides.{pair_view};
 ghost use Rattle.cache_check.specs.Steps.Gaps as steps;
 ghost use Rattle.cache_check.specs.declared.extents.Extent.{Extent};
@@ -102,7 +101,7 @@ pub(crate) fn byte_mismatch(
     requires narrow { (i : ℕ) (d : Extent) → i < length extents.now → (slice_index_or extents.now i d).width ≤ 8 }
     requires here { pair.now.here.now.addr + pair.now.here.now.size < 2 ^ 63 }
     requires there { pair.now.there.now.addr + pair.now.here.now.size < 2 ^ 63 }
-    ensures { result ≡ first_below (steps.held_byte extents.now number (pair_view pair.now)) pair.now.here.now.size }
+    ensures { result ≡ steps.held_mismatch extents.now number (pair_view pair.now) }
 {
     let start = pair.here.addr;
     let end = start + pair.here.size;

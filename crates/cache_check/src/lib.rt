@@ -18,6 +18,7 @@ mod names;
 mod pairs;
 mod read;
 mod references;
+mod sections;
 mod segments;
 mod shape;
 mod shapes;

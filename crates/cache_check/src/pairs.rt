@@ -1,5 +1,5 @@
 // The same section of a file and of its cached image.
-ghost use Rattle.std.specs.Prelude.{◌≡◌, option_copied, option_map};
+ghost use Rattle.std.specs.Prelude.{◌≡◌, ◌≤◌, ◌+◌, ◌^◌, IfSome, option_copied, option_map};
 ghost use Rattle.macho_image.specs.Places.{numbered_section};
 ghost use Rattle.cache_check.specs.Bytes as spec;
 ghost use Rattle.cache_check.specs.Steps.Sides.{pair_view};
@@ -32,8 +32,12 @@ pub(crate) fn pair_of<'s, 'a, 'b>(
     cached: &'s Image<'b>,
     number: u32,
 ) -> Option<Pair<'s, 'a, 'b>>
-    ensures { option_map pair_view result ≡ spec.pair_of file.entry.now cached.entry.now number }
+    ensures pair { option_map pair_view result ≡ spec.pair_of file.entry.now cached.entry.now number }
+    ensures here { IfSome result (λ p. p.here.now.addr + p.here.now.size ≤ 2 ^ 47) }
+    ensures there { IfSome result (λ p. p.there.now.addr ≤ 2 ^ 47) }
 {
+    file.facts();
+    cached.facts();
     let here = numbered(&file.sections, number)?;
     let there = numbered(&cached.sections, number)?;
     let own = file.segments.get(here.segment as usize)?;

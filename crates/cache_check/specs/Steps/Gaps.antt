@@ -5,6 +5,7 @@ use Rattle.cache_check.specs.declared.extents.Extent.{Extent}
 use Rattle.cache_check.specs.declared.mismatch.Mismatch.{Mismatch}
 use Rattle.cache_check.specs.declared.verdict.Seen.TheVariants.{Number}
 use Rattle.cache_check.specs.Bytes.{Pair, byte_in, unlike}
+use Rattle.cache_check.specs.Firsts.{first_below}
 use Rattle.cache_check.specs.Steps.Extents.{holds}
 
 unfoldable pub found_byte : Pair → ℕ → ℕ
@@ -28,3 +29,6 @@ other_byte number p offset = record { section = number; offset = offset; found =
 unfoldable pub held_byte : List Extent → ℕ → Pair → ℕ → Option Mismatch
 held_byte extents number p offset =
     if list_any (holds (p.here.addr + offset)) extents then None else unlike number offset (Number (found_byte p offset)) (Number (wanted_byte p offset))
+
+unfoldable pub held_mismatch : List Extent → ℕ → Pair → Option Mismatch
+held_mismatch extents number p = first_below (held_byte extents number p) p.here.size
