@@ -1,4 +1,5 @@
 -- What the proofs alone speak of: how the calls come to what the contracts of this crate promise.
+pub mod Comparing
 pub mod Extents
 pub mod Faults
 pub mod Gaps

@@ -5,6 +5,7 @@
 
 mod chains;
 mod comparing;
+mod differing;
 mod exports;
 mod extents;
 mod finding;
@@ -22,6 +23,7 @@ mod sections;
 mod segments;
 mod shape;
 mod shapes;
+mod sides;
 mod strays;
 mod streams;
 mod verdict;

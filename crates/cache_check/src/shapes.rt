@@ -1,5 +1,5 @@
 // The shapes of images.
-ghost use Rattle.std.specs.Prelude.{◌≡◌, ◌++◌, ◌∷◌, [], IfOk, OnOk, length, filter, nat_eq, not};
+ghost use Rattle.std.specs.Prelude.{◌≡◌, ◌<◌, ◌^◌, ◌++◌, ◌∷◌, [], ℕ, slice_index, IfOk, OnOk, length, filter, nat_eq, not};
 ghost use Rattle.std.specs.List.{flat_map};
 ghost use Rattle.dsc_base.specs.Numbers.{big_number};
 ghost use Rattle.macho_image.specs.Rules.{is_linkedit_segment};
@@ -107,13 +107,23 @@ fn count_segments(segments: &[Segment<'_>]) -> usize
         .count()
 }
 
+/// Does nothing; its contract tells what is true of each slice of bytes.
+fn are_bytes(bytes: &[u8])
+    ensures { (k : ℕ) → slice_index bytes.now k < 256 }
+{
+    let _ = bytes;
+}
+
 /// The shape of an image as a list of numbers: how many segments it has besides `__LINKEDIT`; for each of
 /// them its name, size, protection and number of sections; and for each of its sections the name, the distance
 /// from its segment's start, and the size.
 #[tactic(auto, unfolding(load_model::specs::Corresponds::shape_of))]
 pub(crate) fn shape_of(alloc: Global, image: &Image<'_>) -> Result<Vec<u128>, NoMemory>
-    ensures { IfOk result (λ v. v.items ≡ spec.shape_of image.now) }
+    ensures shape { IfOk result (λ v. v.items ≡ spec.shape_of image.now) }
+    ensures few { IfOk result (λ v. length v.items < 2 ^ 32) }
 {
+    image.facts();
+    are_bytes(image.header);
     let mut numbers = Vec::new(alloc);
     numbers.push(count_segments(&image.segments) as u128)?;
     for (number, segment) in image.segments.iter().enumerate() {
