@@ -82,21 +82,21 @@ module _ (extents : List Extent) (number : ℕ) (p : Pair) (n at : ℕ) (rises :
       → AreTried extents number p (n + 1) next
   tried_more e next inside is same kept end new = record {
     ended = λ i d lt. elim (cases_lt i n) [
-        | inl before ↦ omega (arith, tried.ended i d before, kept)
-        | inr behind ↦
-            let here : i ≡ n = omega (arith, lt, behind) in
-            let one : get_or extents i d ≡ e = ap (λ (m : ℕ). get_or extents m d) here ∙ is d in
-            subst (λ (x : Extent). x.at + x.width ≤ p.here.addr + next) (sym one) end
+      | inl before ↦ omega (arith, tried.ended i d before, kept)
+      | inr behind ↦
+          let here : i ≡ n = omega (arith, lt, behind) in
+          let one : get_or extents i d ≡ e = ap (λ (m : ℕ). get_or extents m d) here ∙ is d in
+          subst (λ (x : Extent). x.at + x.width ≤ p.here.addr + next) (sym one) end
     ];
     none = λ o lt. elim (cases_lt o at) [
-        | inl before ↦ tried.none o before
-        | inr from ↦ elim (cases_lt o (e.at - p.here.addr)) [
-          | inl gap ↦ same_none extents number p o (same o from gap)
-          | inr within ↦
-              held_none extents number p o
-              (list_any_at (holds (p.here.addr + o)) extents n e inside
-              (ap (holds (p.here.addr + o)) (is e) ∙ held_by (p.here.addr + o) e (omega (arith, within)) (omega (arith, new (omega (arith, from, lt)), lt))))
-        ]
+      | inl before ↦ tried.none o before
+      | inr from ↦ elim (cases_lt o (e.at - p.here.addr)) [
+        | inl gap ↦ same_none extents number p o (same o from gap)
+        | inr within ↦
+            held_none extents number p o
+            (list_any_at (holds (p.here.addr + o)) extents n e inside
+            (ap (holds (p.here.addr + o)) (is e) ∙ held_by (p.here.addr + o) e (omega (arith, within)) (omega (arith, new (omega (arith, from, lt)), lt))))
+      ]
     ];
   }
 

@@ -49,8 +49,8 @@ module _ (chains : Chains) (pointers : List PlacedWord) (number : ℕ) (p : Pair
 -- ---- all of them
 
 module _ (chains : Chains) (pointers : List PlacedWord) (number : ℕ) (p : Pair)
-  (rises : (i j : ℕ) (d : ChainWord) → i < j → j < length chains.words → (get_or chains.words i d).offset + 8 ≤ (get_or chains.words j d).offset)
-  (low : (i : ℕ) (d : ChainWord) → i < length chains.words → chains.start + (get_or chains.words i d).offset < 2 ^ 63) where
+    (rises : (i j : ℕ) (d : ChainWord) → i < j → j < length chains.words → (get_or chains.words i d).offset + 8 ≤ (get_or chains.words j d).offset)
+    (low : (i : ℕ) (d : ChainWord) → i < length chains.words → chains.start + (get_or chains.words i d).offset < 2 ^ 63) where
   unwrapped : (i : ℕ) → i < length chains.words → wrap (chains.start + (get_or chains.words i (record { offset = 0; value = 0 })).offset) ≡ chains.start + (get_or chains.words i (record { offset = 0; value = 0 })).offset
   unwrapped i lt = let small = low i (record { offset = 0; value = 0 }) lt in omega (arith, small)
 

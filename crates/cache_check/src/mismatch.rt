@@ -34,8 +34,7 @@ impl Mismatch {
     fn is_before(&self, other: &Mismatch) -> bool
         ensures { result ≡ spec.is_before self.now other.now }
     {
-        self.section < other.section
-            || self.section == other.section && self.offset < other.offset
+        self.section < other.section || self.section == other.section && self.offset < other.offset
     }
 }
 

@@ -8,9 +8,7 @@ ghost use Rattle.prebind.specs.Targets.{reference_number, reference_target};
 ghost use Rattle.prebind.specs.Words.{reference_location, is_no_pointer};
 
 use crate::words::extended;
-use macho_image::{
-    Image, Location, Segment, half_at_address, number_at_address, section_around,
-};
+use macho_image::{Image, Location, Segment, half_at_address, number_at_address, section_around};
 use prebind::WordTarget;
 use split_info::{RefKind, Reference};
 

@@ -61,11 +61,7 @@ fn first_stray(matching: &Matching<'_, '_, '_>, pointers: &[PlacedWord]) -> Opti
 
 /// A byte in no word that isn't the file's, in the section of a number from 0.
 #[tactic(auto, unfolding(crate::specs::Bytes::in_section))]
-fn byte_of(
-    matching: &Matching<'_, '_, '_>,
-    extents: &[Extent],
-    number: u32,
-) -> Option<Mismatch>
+fn byte_of(matching: &Matching<'_, '_, '_>, extents: &[Extent], number: u32) -> Option<Mismatch>
     requires sorted { IsNonDecreasingBy (λ e. e.at) extents.now }
     requires narrow { (i : ℕ) (d : Extent) → i < length extents.now → (slice_index_or extents.now i d).width ≤ 8 }
     requires few { number < 255 }

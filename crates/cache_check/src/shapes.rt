@@ -37,7 +37,10 @@ fn push_section(
 {
     let distance = section.addr.wrapping_sub(segment.vmaddr);
     let name = name_number(section.name);
-    push_three(numbers, (name, u128::from(distance), u128::from(section.size)))
+    push_three(
+        numbers,
+        (name, u128::from(distance), u128::from(section.size)),
+    )
 }
 
 /// How many sections a segment has, by its number.
@@ -51,17 +54,17 @@ fn count_sections(sections: &[Section], number: usize) -> usize
 }
 
 /// Appends the shape of a segment without its sections, of which there are so many.
-fn push_fields(
-    numbers: &mut Vec<u128>,
-    segment: &Segment<'_>,
-    count: usize,
-) -> Result<(), NoMemory>
+fn push_fields(numbers: &mut Vec<u128>, segment: &Segment<'_>, count: usize) -> Result<(), NoMemory>
     ensures { OnOk result (numbers.new.items ≡ numbers.old.items ++ (big_number 16 segment.now.name ∷ segment.now.vmsize ∷ segment.now.initprot ∷ count ∷ [])) }
 {
     let name = name_number(segment.name);
     push_three(
         numbers,
-        (name, u128::from(segment.vmsize), u128::from(segment.initprot)),
+        (
+            name,
+            u128::from(segment.vmsize),
+            u128::from(segment.initprot),
+        ),
     )?;
     numbers.push(count as u128)?;
     Ok(())

@@ -16,7 +16,10 @@ pub enum Seen {
 #[derive(Debug, Drop)]
 pub enum Difference {
     /// The cache has another number of images than there are files.
-    Images { found: u32, wanted: u32 },
+    Images {
+        found: u32,
+        wanted: u32,
+    },
     /// The path of an image isn't the install name of its file.
     Path {
         image: u32,

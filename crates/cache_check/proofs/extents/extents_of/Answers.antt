@@ -13,11 +13,11 @@ returns-clause-sorted c = IsNonDecreasingBy-from_sort_by_key (λ (e : Extent). e
 pub returns-clause-covers : goal.returns-clause-covers
 returns-clause-covers c = λ k sections segments address.
     let made = c.in_ok-push_references.ensures ∙ ap (λ (l : List Extent). l ++ map reference_extent (filter is_no_pointer c.args.references.now))
-        (c.in_ok-push_pointers.ensures ∙ ap (λ (l : List Extent). l ++ map pointer_extent c.args.pointers.now) c.in_ok-extents.ensures.items) in
+    (c.in_ok-push_pointers.ensures ∙ ap (λ (l : List Extent). l ++ map pointer_extent c.args.pointers.now) c.in_ok-extents.ensures.items) in
     held_alike k address sections segments c.args.pointers.now c.args.references.now c.push_references.new.extents.items c.sort_by_key.new.self.items made c.in_ok-sort_by_key.ensures.permutation
 
 pub returns-clause-narrow : goal.returns-clause-narrow
 returns-clause-narrow c = λ i d lt.
     let made = c.in_ok-push_references.ensures ∙ ap (λ (l : List Extent). l ++ map reference_extent (filter is_no_pointer c.args.references.now))
-        (c.in_ok-push_pointers.ensures ∙ ap (λ (l : List Extent). l ++ map pointer_extent c.args.pointers.now) c.in_ok-extents.ensures.items) in
+    (c.in_ok-push_pointers.ensures ∙ ap (λ (l : List Extent). l ++ map pointer_extent c.args.pointers.now) c.in_ok-extents.ensures.items) in
     all_narrow c.args.pointers.now c.args.references.now c.push_references.new.extents.items c.sort_by_key.new.self.items made c.in_ok-sort_by_key.ensures.permutation i d lt

@@ -21,9 +21,9 @@ returns-in-Some c =
     ∙ sym (differs_at c.args.extents.now c.args.number (pair_view c.args.pair.now) c.loop-index.index c.loop-index.at c.requires.sorted c.loop-index.invariant c.in-Some.offset c.args.pair.now.here.now.size
     (omega (arith, first.1, c.saturating_sub-from.ensures, below)) first.0 first.2 first.3
     (λ i d from lt.
-        let order = c.requires.sorted c.loop-index.index i d from lt in
-        let same = ap (λ (x : Extent). x.at) (get_or_default c.args.extents.now c.loop-index.index d (record { at = 0; width = 0 }) inside) in
-        omega (arith, order, same, first.1, c.saturating_sub-from.ensures)))
+    let order = c.requires.sorted c.loop-index.index i d from lt in
+    let same = ap (λ (x : Extent). x.at) (get_or_default c.args.extents.now c.loop-index.index d (record { at = 0; width = 0 }) inside) in
+    omega (arith, order, same, first.1, c.saturating_sub-from.ensures)))
 
 pub loop-index-preserved : goal.loop-index-preserved
 loop-index-preserved c =

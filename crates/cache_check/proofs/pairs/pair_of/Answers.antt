@@ -13,5 +13,5 @@ returns-clause-here c =
 pub returns-clause-there : goal.returns-clause-there
 returns-clause-there c =
     let low = numbered_low c.args.cached.now c.args.number c.in_ok-there.there.now c.facts-2.ensures
-        (ap (λ (xs : List Section). numbered_section xs c.args.number) (sym (c.deref-2.ensures.value ∙ ap (λ (i : Img). i.sections) c.cached.view_is)) ∙ sym c.in_ok-there.ensures) in
+    (ap (λ (xs : List Section). numbered_section xs c.args.number) (sym (c.deref-2.ensures.value ∙ ap (λ (i : Img). i.sections) c.cached.view_is)) ∙ sym c.in_ok-there.ensures) in
     omega (arith, low)

@@ -29,15 +29,15 @@ loop-number-preserved c =
     let lt = subst (λ (ss : List Seg). c.loop-number.number < length ss) c.loop-number.invariant.segments c.loop-number-test.true in
     record {
       shaped = elim c.if-not-is_linkedit.branch [
-          | then-not-is_linkedit+in_ok-push_segment w ↦
-              all_more c.args.image.now c.loop-number.numbers.items c.if-not-is_linkedit.numbers.items (shape_of c.args.image.now) c.loop-number.number c.segment-item.result c.segment-item.result c.loop-number.invariant.shaped lt at
-              (sym c.is_linkedit.ensures ∙ w.if-not-is_linkedit.true)
-              (ap (λ (v : Vec ℕ Global). v.items) w.numbers-is ∙ (w.in_ok-push_segment.ensures
-              ∙ ap (λ (xs : List Section). c.loop-number.numbers.items ++ segment_shape c.segment-item.result (own xs)) (w.deref-then-not-is_linkedit.ensures.value ∙ ap (λ (i : Img). i.sections) c.image.view_is)))
-          | else-not-is_linkedit w ↦
-              subst (λ (v : Vec ℕ Global). AreAllShaped c.args.image.now v.items (c.loop-number.number + 1) (shape_of c.args.image.now)) (sym w.numbers-is)
-              (all_other c.args.image.now c.loop-number.numbers.items (shape_of c.args.image.now) c.loop-number.number c.segment-item.result c.segment-item.result c.loop-number.invariant.shaped lt at
-              (sym c.is_linkedit.ensures ∙ w.if-not-is_linkedit.false))
+        | then-not-is_linkedit+in_ok-push_segment w ↦
+            all_more c.args.image.now c.loop-number.numbers.items c.if-not-is_linkedit.numbers.items (shape_of c.args.image.now) c.loop-number.number c.segment-item.result c.segment-item.result c.loop-number.invariant.shaped lt at
+            (sym c.is_linkedit.ensures ∙ w.if-not-is_linkedit.true)
+            (ap (λ (v : Vec ℕ Global). v.items) w.numbers-is ∙ (w.in_ok-push_segment.ensures
+            ∙ ap (λ (xs : List Section). c.loop-number.numbers.items ++ segment_shape c.segment-item.result (own xs)) (w.deref-then-not-is_linkedit.ensures.value ∙ ap (λ (i : Img). i.sections) c.image.view_is)))
+        | else-not-is_linkedit w ↦
+            subst (λ (v : Vec ℕ Global). AreAllShaped c.args.image.now v.items (c.loop-number.number + 1) (shape_of c.args.image.now)) (sym w.numbers-is)
+            (all_other c.args.image.now c.loop-number.numbers.items (shape_of c.args.image.now) c.loop-number.number c.segment-item.result c.segment-item.result c.loop-number.invariant.shaped lt at
+            (sym c.is_linkedit.ensures ∙ w.if-not-is_linkedit.false))
       ];
       segments = c.loop-number.invariant.segments;
     }
@@ -48,7 +48,7 @@ loop-number-preserved c =
 pub returns-clause-few : goal.returns-clause-few
 returns-clause-few c =
     let shape = all_end c.args.image.now c.loop-number.numbers.items c.loop-number.number c.loop-number.invariant.shaped
-        (subst (λ (ss : List Seg). length ss ≤ c.loop-number.number) c.loop-number.invariant.segments c.loop-number-test.false) in
+    (subst (λ (ss : List Seg). length ss ≤ c.loop-number.number) c.loop-number.invariant.segments c.loop-number-test.false) in
     let bytes : (k : ℕ) → get_or c.args.image.now.header k 0 < 256 = λ k. subst (λ (b : List ℕ). get_or b k 0 < 256) (ap (λ (i : Img). i.header) c.image.view_is) (c.are_bytes.ensures k) in
     subst (λ (l : List ℕ). length l < 2 ^ 32) (sym shape) (few_numbers c.args.image.now c.facts.ensures bytes)
 
