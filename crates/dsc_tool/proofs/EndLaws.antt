@@ -1,17 +1,19 @@
 -- How a run ends, by what its parts left.
-use Rattle.std.proofs.Common.{◌≡◌, ◌⊎◌, ℕ, List, Option, sym, subst, inl, inr}
+use Rattle.std.proofs.Common.{◌≡◌, ◌⊎◌, ℕ, List, Option, sym, ap, subst, inl, inr}
 use Rattle.dsc_base.specs.Outside.{Files}
 use Rattle.dsc_tool.specs.declared.product.Product.{Product}
 use Rattle.dsc_tool.specs.declared.status.Status.{Status}
 use Rattle.dsc_tool.specs.declared.status.Status.TheVariants.{Done, Refused, BadWords, ReadFault, WriteFault, Memory, Differs}
+use Rattle.dsc_tool.specs.declared.status.Ending.{Ending}
+use Rattle.dsc_tool.specs.declared.status.Ending.TheVariants.{Done as AllDone, Differs as NotAlike}
 use Rattle.dsc_tool.specs.declared.stop.Stop.{Stop}
 use Rattle.dsc_tool.specs.declared.stop.Stop.TheVariants.{BadWords as NoCommand, Unread, Refused as Broken, Flawed, Memory as NoMemory}
 use Rattle.dsc_tool.specs.Causes.{IsDue}
 use Rattle.dsc_tool.specs.Made.{Made}
 use Rattle.dsc_tool.specs.Ran.{IsWorked, IsStopped, Ends}
-use Rattle.dsc_tool.specs.Statuses.{status_of}
+use Rattle.dsc_tool.specs.Statuses.{status_at, status_of}
 use Rattle.dsc_tool.specs.Steps.{IsProduct, made_of, Tells, TellsStop, IsDelivered, IsFilePart, IsTextPart, IsUndelivered, IsUnput, Delivers}
-use Rattle.dsc_tool.specs.Streams.{World}
+use Rattle.dsc_tool.specs.Streams.{World, appended, with_files}
 use Rattle.dsc_tool.specs.Texts.{text_of}
 
 abbrev worked : (words : List (List ℕ)) (files : Option Files) (p : Product) → IsProduct words files p → IsWorked words files
@@ -19,8 +21,8 @@ worked words files p (order, contents, is, promised) = record { order = order; c
 
 -- ---- the count of failed gets has no part in what is delivered
 
-delivered_since : (before after : World) (gets : ℕ) (m : Made) → IsDelivered m (record before { get_faults = gets }) after → IsDelivered m before after
-delivered_since before after gets m all = record { files = all.files; out = all.out; err = all.err }
+delivered_since : (before after : World) (gets : ℕ) (m : Made) (status : Status) → IsDelivered m (record before { get_faults = gets }) after status → IsDelivered m before after status
+delivered_since before after gets m status all = record { ended = all.ended; files = all.files; out = all.out; err = all.err }
 
 part_since : (before after : World) (gets : ℕ) (m : Made) → IsFilePart m (record before { get_faults = gets }) after ⊎ IsTextPart m (record before { get_faults = gets }) after
     → IsFilePart m before after ⊎ IsTextPart m before after
@@ -35,16 +37,23 @@ unput_since before after gets m status few = record { files = few.files; out = f
 
 -- ---- what is delivered
 
+pub all-delivered : (m : Made) (before after : World) (ending : Ending) (status : Status) → ending ≡ m.ending → status ≡ status_at ending → after.files ≡ with_files before.files m.files
+    → after.out ≡ appended before.out m.text → after.err ≡ before.err → Delivers m before after status
+all-delivered m before after AllDone status same is files out err =
+    subst (λ (s : Status). Delivers m before after s) (sym is) (record { ended = ap status_at same; files = files; out = out; err = err })
+all-delivered m before after NotAlike status same is files out err =
+    subst (λ (s : Status). Delivers m before after s) (sym is) (record { ended = ap status_at same; files = files; out = out; err = err })
+
 delivered : (words : List (List ℕ)) (before after : World) (gets : ℕ) (p : Product) (status : Status) → IsProduct words before.files p
     → Delivers (made_of p) (record before { get_faults = gets }) after status → Ends words before after status
-delivered words before after gets p Done is all = record { worked = worked words before.files p is; all = delivered_since before after gets (made_of p) all }
+delivered words before after gets p Done is all = record { worked = worked words before.files p is; all = delivered_since before after gets (made_of p) Done all }
+delivered words before after gets p Differs is all = record { worked = worked words before.files p is; all = delivered_since before after gets (made_of p) Differs all }
 delivered words before after gets p WriteFault is (inl some) = inl (inr (record { worked = worked words before.files p is; some = undelivered_since before after gets (made_of p) some }))
 delivered words before after gets p WriteFault is (inr few) = inr (record { worked = worked words before.files p is; few = unput_since before after gets (made_of p) WriteFault few })
 delivered words before after gets p Memory is few = inr (record { worked = worked words before.files p is; few = unput_since before after gets (made_of p) Memory few })
 delivered words before after gets p Refused is never = absurd never
 delivered words before after gets p BadWords is never = absurd never
 delivered words before after gets p ReadFault is never = absurd never
-delivered words before after gets p Differs is never = absurd never
 
 -- where the store is as before the inputs were read, but for its count of failed gets
 pub ends-delivered : (words : List (List ℕ)) (before after : World) (files : Option Files) (gets puts : ℕ) (p : Product) (status : Status) → files ≡ before.files

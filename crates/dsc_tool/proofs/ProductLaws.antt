@@ -11,7 +11,7 @@ use Rattle.dsc_tool.specs.declared.stop.Stop.{Stop}
 use Rattle.dsc_tool.specs.declared.stop.Stop.TheVariants.{BadWords, Unread, Refused, Flawed, Memory}
 use Rattle.dsc_tool.specs.Causes.{IsRead, IsMade, IsDue}
 use Rattle.dsc_tool.specs.Inputs.{AreRead, Contents, CacheCause, InputsAreRead, Names, inputs_of}
-use Rattle.dsc_tool.specs.Made.{Made, Promised, build_made, head_made, made, text_made, trial_files, trial_made, trial_text}
+use Rattle.dsc_tool.specs.Made.{Made, Promised, build_made, head_made, made, text_made, told_of, trial_files, trial_made, trial_text}
 use Rattle.dsc_tool.specs.Steps.{BuildStop, BuildWorks, HeadStop, TextWorks, TrialStop, TrialWorks}
 use Rattle.dsc_tool.specs.Stops.{cache_limit}
 use Rattle.dsc_tool.specs.Words.{Order, build, trial, command_of}
@@ -82,8 +82,8 @@ module _ (order : Order) (text : Head → List ℕ) (name : List ℕ) (reads : i
     only_cache head.bytes,
     record {
       read = cache_read head.bytes head.there head.within;
-      made = makes head.bytes ∙ (ap (text_made text head.bytes) head.sound
-          ∙ (ap (λ (g : Head). Ok record { files = []; text = text g }) (sym head.is) ∙ ap (λ (n : Made). Ok n) (sym is)));
+      made = makes head.bytes ∙ (ap (told_of text head.bytes) head.sound
+          ∙ (ap (λ (g : Head). Ok (text_made (text g))) (sym head.is) ∙ ap (λ (n : Made). Ok n) (sym is)));
     },
     promised head.bytes,
   )
@@ -100,7 +100,7 @@ module _ (order : Order) (text : Head → List ℕ) (name : List ℕ) (reads : i
   head_due old new (Refused b) (inr (bytes, there, within, (f, is, found))) = absurd cc
   head_due old new (Flawed g) (inl cause) = (order, spelled, inl (inl (at_cache old new (Flawed g) cause)))
   head_due old new (Flawed g) (inr (bytes, there, within, (f, is, found))) =
-      (order, spelled, inr (only_cache bytes, cache_read bytes there within, makes bytes ∙ (ap (text_made text bytes) found ∙ ap (λ (s : Stop). Err s) (sym is))))
+      (order, spelled, inr (only_cache bytes, cache_read bytes there within, makes bytes ∙ (ap (told_of text bytes) found ∙ ap (λ (s : Stop). Err s) (sym is))))
   head_due old new Memory cause = tt
 
 -- ---- trial dylibs
@@ -119,7 +119,7 @@ trial_product words files options seed count m spelled (cache, works, is) = (
   record {
     read = trial_read words files options seed count spelled;
     made = ap (trial_made (trial_files seed count)) works.unbroken
-        ∙ (ap (λ (c : List ℕ). Ok record { files = []; text = trial_text (trial_files seed count) c }) (sym works.is) ∙ ap (λ (n : Made). Ok n) (sym is));
+        ∙ (ap (λ (c : List ℕ). Ok (text_made (trial_text (trial_files seed count) c))) (sym works.is) ∙ ap (λ (n : Made). Ok n) (sym is));
   },
   subst (λ (c : List ℕ). CorrespondsAlways (trial_files seed count) c) works.is works.corresponds,
 )

@@ -9,6 +9,8 @@ use Rattle.cache_build.specs.declared.builder.Options.{Options}
 use Rattle.dsc_tool.specs.Options.{delta_bits}
 use Rattle.dsc_tool.specs.declared.status.Status.{Status}
 use Rattle.dsc_tool.specs.declared.status.Status.TheVariants.{Done, Refused, BadWords, ReadFault, WriteFault, Memory, Differs}
+use Rattle.dsc_tool.specs.declared.status.Ending.{Ending}
+use Rattle.dsc_tool.specs.declared.status.Ending.TheVariants.{Done as AllDone, Differs as NotAlike}
 use Rattle.dsc_tool.specs.declared.stop.Stop.{Stop}
 use Rattle.dsc_tool.specs.declared.stop.Stop.TheVariants.{BadWords as NoCommand, Unread, Refused as Broken, Flawed, Memory as NoMemory}
 use Rattle.dsc_tool.specs.Causes.{IsMade, IsDue}
@@ -16,7 +18,7 @@ use Rattle.dsc_tool.specs.Inputs.{Contents, InputsAreRead, inputs_of}
 use Rattle.dsc_tool.specs.Made.{Made, Promised, build_made, cache_made, made}
 use Rattle.dsc_tool.specs.Output.{Outcome, command_end, outcome_of, output}
 use Rattle.dsc_tool.specs.Ran.{IsDone, IsStopped, IsCutShort, IsLeftOff, Ends, IsOutcome, IsSettled, IsFaultText, IsByOutput, IsBuilt, Ran}
-use Rattle.dsc_tool.specs.Statuses.{status_of}
+use Rattle.dsc_tool.specs.Statuses.{status_at, status_of}
 use Rattle.dsc_tool.specs.Streams.{World, AnyRose, appended, put_files, with_files}
 use Rattle.dsc_tool.specs.Texts.{text_of, cannot_write_line, no_memory_line}
 use Rattle.dsc_tool.specs.Words.{Order, build, command_of}
@@ -53,19 +55,27 @@ exact words files before after status o =
       told = ((output words files).err, inl refl, prefix-whole before.err after.err (output words files).err o.err);
     }
 
--- the output prints nothing on standard output unless it is Done
-silent_end : (files : Files) (end : Result Made Stop) (status : Status) → status ≡ (outcome_of files end).status → (status ≡ Done → ⊥) → (outcome_of files end).out ≡ []
-silent_end files (Ok m) status is other = absurd (other is)
-silent_end files (Err stop) status is other = refl
+-- where all is put the status is settled
+ending_settled : (e : Ending) → IsSettled (status_at e)
+ending_settled AllDone = tt
+ending_settled NotAlike = tt
 
-silent : (words : List (List ℕ)) (files : Files) (status : Status) → status ≡ (output words files).status → (status ≡ Done → ⊥) → (output words files).out ≡ []
+unended : (m : Made) (status : Status) → (IsSettled status → ⊥) → status ≡ status_at m.ending → ⊥
+unended m status never is = never (subst IsSettled (sym is) (ending_settled m.ending))
+
+-- so the output prints nothing on standard output where its status isn't
+silent_end : (files : Files) (end : Result Made Stop) (status : Status) → status ≡ (outcome_of files end).status → (IsSettled status → ⊥) → (outcome_of files end).out ≡ []
+silent_end files (Ok m) status is never = absurd (unended m status never is)
+silent_end files (Err stop) status is never = refl
+
+silent : (words : List (List ℕ)) (files : Files) (status : Status) → status ≡ (output words files).status → (IsSettled status → ⊥) → (output words files).out ≡ []
 unfolding output
-silent words files status is other = silent_end files (command_end files (command_of words)) status is other
+silent words files status is never = silent_end files (command_end files (command_of words)) status is never
 
-printed_none : (words : List (List ℕ)) (files : Files) (before after : World) (status : Status) → (status ≡ Done → ⊥) → after.out ≡ before.out
+printed_none : (words : List (List ℕ)) (files : Files) (before after : World) (status : Status) → (IsSettled status → ⊥) → after.out ≡ before.out
     → status ≡ (output words files).status → after.out ≡ appended before.out (output words files).out
-printed_none words files before after status other same is =
-    appended-none before.out after.out same ∙ ap (λ (l : List ℕ). appended before.out l) (sym (silent words files status is other))
+printed_none words files before after status never same is =
+    appended-none before.out after.out same ∙ ap (λ (l : List ℕ). appended before.out l) (sym (silent words files status is never))
 
 -- the text of a stop is the output's, or that of a fault
 stop_text : (words : List (List ℕ)) (files : Files) (old new : ℕ) (stop : Stop) → IsDue words (Some files) old new stop
@@ -86,16 +96,15 @@ abbrev IsTold : List (List ℕ) → Files → World → World → Type 0
 IsTold words files before after = (text : List ℕ) × ((text ≡ (output words files).err) ⊎ IsFaultText words text) × AppendsPrefix before.err text after.err
 
 -- a run that stopped with a status that isn't settled
-unsettled : (words : List (List ℕ)) (files : Files) (before after : World) (status : Status) → (IsSettled status → ⊥) → (status ≡ Done → ⊥)
-    → (status ≡ Memory) ⊎ AnyRose before after → after.out ≡ before.out → IsTold words files before after → IsByOutput words files before after status
-unsettled words files before after status never other why same told =
+unsettled : (words : List (List ℕ)) (files : Files) (before after : World) (status : Status) → (IsSettled status → ⊥) → (status ≡ Memory) ⊎ AnyRose before after → after.out ≡ before.out → IsTold words files before after → IsByOutput words files before after status
+unsettled words files before after status never why same told =
     record {
       settled = λ is. absurd (never is);
       quiet = λ still. excused _ before after status why still;
       complete = λ _ _ _ _ still. excused _ before after status why still;
       refuses = λ _ _ _ _ _ still. excused _ before after status why still;
       printed = prefix-none before.out after.out (output words files).out same;
-      printed_all = printed_none words files before after status other same;
+      printed_all = printed_none words files before after status never same;
       told = told;
     }
 
@@ -105,14 +114,14 @@ stopped_told words files before after stop told is ended =
     subst (λ (o : Outcome). IsOutcome o before after (status_of stop)) (sym ended)
     (record { status_is = refl; files = is.files ∙ told; out = appended-none before.out after.out is.out; err = is.err })
 
-done_told : (words : List (List ℕ)) (files : Files) (before after : World) → before.files ≡ Some files → IsDone words before after
-    → IsOutcome (output words files) before after Done
-done_told words files before after told is =
+done_told : (words : List (List ℕ)) (files : Files) (before after : World) (status : Status) → before.files ≡ Some files → IsDone words before after status
+    → IsOutcome (output words files) before after status
+done_told words files before after status told is =
     let m = is.worked.made in
-    subst (λ (o : Outcome). IsOutcome o before after Done)
+    subst (λ (o : Outcome). IsOutcome o before after status)
     (sym (output-made words files is.worked.order is.worked.contents m (made_told words files before is.worked.order is.worked.contents m told is.worked.is)))
     (record {
-      status_is = refl;
+      status_is = is.all.ended;
       files = is.all.files ∙ (ap (λ (f : Option Files). with_files f m.files) told ∙ put_told files m.files);
       out = is.all.out;
       err = appended-none before.err after.err is.all.err;
@@ -139,7 +148,7 @@ cut_told words files before after told cut =
       refuses = λ _ _ _ _ _ still. excused _ before after WriteFault rose still;
       printed = subst (λ (o : Outcome). AppendsPrefix before.out o.out after.out) (sym done)
           (elim cut.some.part [ inl file ↦ prefix-none before.out after.out _ file.out | inr text ↦ text.out ]);
-      printed_all = λ is. absurd (let never : WriteFault ≡ Done = is ∙ ap (λ (o : Outcome). o.status) done in cc);
+      printed_all = λ is. absurd (unended m WriteFault (λ never. never) (is ∙ ap (λ (o : Outcome). o.status) done));
       told = (cannot_write_line, inr (inr (inl refl)), elim cut.some.err [ inl all ↦ prefix-whole before.err after.err cannot_write_line all.1 | inr part ↦ part.2 ]);
     }
 
@@ -157,13 +166,14 @@ read_told : (words : List (List ℕ)) (files : Files) (before after : World) (in
     → IsByOutput words files before after ReadFault
 read_told words files before after input told is =
     elim (output-unread words files before.get_faults after.get_faults input (due_told words files before after (Unread input) told is.cause)) [
-      | inl rose ↦ unsettled words files before after ReadFault (λ never. never) (λ (never : ReadFault ≡ Done). cc) (inr (inl (inl rose))) is.out (stop_told words files before after (Unread input) told is)
+      | inl rose ↦ unsettled words files before after ReadFault (λ never. never) (inr (inl (inl rose))) is.out (stop_told words files before after (Unread input) told is)
       | inr ended ↦ exact words files before after ReadFault (stopped_told words files before after (Unread input) told is ended)
     ]
 
 pub by_output : (words : List (List ℕ)) (files : Files) (before after : World) (status : Status) → before.files ≡ Some files → Ends words before after status
     → IsByOutput words files before after status
-by_output words files before after Done told is = exact words files before after Done (done_told words files before after told is)
+by_output words files before after Done told is = exact words files before after Done (done_told words files before after Done told is)
+by_output words files before after Differs told is = exact words files before after Differs (done_told words files before after Differs told is)
 by_output words files before after Refused told (inl (b, is)) =
     exact words files before after Refused
     (stopped_told words files before after (Broken b) told is
@@ -176,17 +186,16 @@ by_output words files before after BadWords told is =
     exact words files before after BadWords (stopped_told words files before after NoCommand told is (output-bad_words words files is.cause))
 by_output words files before after ReadFault told (input, is) = read_told words files before after input told is
 by_output words files before after WriteFault told (inl (inl un)) =
-    unsettled words files before after WriteFault (λ never. never) (λ (never : WriteFault ≡ Done). cc) (inr (inr (inr un.fault))) un.out
+    unsettled words files before after WriteFault (λ never. never) (inr (inr (inr un.fault))) un.out
     (text_of un.stop, stop_text words files before.get_faults after.get_faults un.stop (due_told words files before after un.stop told un.cause), un.err)
 by_output words files before after WriteFault told (inl (inr cut)) = cut_told words files before after told cut
 by_output words files before after WriteFault told (inr left) =
-    unsettled words files before after WriteFault (λ never. never) (λ (never : WriteFault ≡ Done). cc) (inr (left_rose words before after left)) left.few.out
+    unsettled words files before after WriteFault (λ never. never) (inr (left_rose words before after left)) left.few.out
     (memory_told words files before after WriteFault left)
 by_output words files before after Memory told (inl is) =
-    unsettled words files before after Memory (λ never. never) (λ (never : Memory ≡ Done). cc) (inl refl) is.out (stop_told words files before after NoMemory told is)
+    unsettled words files before after Memory (λ never. never) (inl refl) is.out (stop_told words files before after NoMemory told is)
 by_output words files before after Memory told (inr left) =
-    unsettled words files before after Memory (λ never. never) (λ (never : Memory ≡ Done). cc) (inl refl) left.few.out (memory_told words files before after Memory left)
-by_output words files before after Differs told never = absurd never
+    unsettled words files before after Memory (λ never. never) (inl refl) left.few.out (memory_told words files before after Memory left)
 
 -- ---- a build that was done
 
@@ -219,7 +228,7 @@ build_done words files before after options out names contents m told read is pr
 
 -- after Done the cache of the told inputs is at its name
 built-told : (words : List (List ℕ)) (files : Files) (before after : World) (options : Options) (out : List ℕ) (names : List (List ℕ)) → before.files ≡ Some files
-    → command_of words ≡ Some (build options out names) → IsDone words before after → IsBuilt out names files after.files
+    → command_of words ≡ Some (build options out names) → IsDone words before after Done → IsBuilt out names files after.files
 built-told words files before after options out names told spelled is =
     let w = is.worked in
     let here = made_told words files before w.order w.contents w.made told w.is in

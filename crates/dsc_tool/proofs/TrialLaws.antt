@@ -1,5 +1,5 @@
 -- The cache of trial dylibs.
-use Rattle.std.proofs.Common.{◌≡◌, ℕ, List, [], length, None, refl, sym, ap, ap₂, ◌∙◌, subst}
+use Rattle.std.proofs.Common.{◌≡◌, ℕ, List, length, None, refl, sym, ap, ap₂, ◌∙◌, subst}
 use Rattle.std.specs.List.{sum}
 use Rattle.dsc_base.specs.declared.fault.ViewFault.{ViewFault}
 use Rattle.dsc_base.specs.declared.fault.ViewFault.TheVariants.{Broken, Memory as NoMemory}
@@ -12,7 +12,7 @@ use Rattle.cache_build.specs.Sound.{IsSoundCache}
 use Rattle.cache_check.specs.Views.{view_finding, view_of}
 use Rattle.cache_check.proofs.WholeLaws.{nothing_wrong}
 use Rattle.dsc_gen.proofs.FileLaws.{length-generated}
-use Rattle.dsc_tool.specs.Made.{Made, trial_files, trial_text}
+use Rattle.dsc_tool.specs.Made.{Made, text_made, trial_files, trial_text}
 use Rattle.dsc_tool.specs.Options.{delta_bits}
 use Rattle.dsc_tool.specs.Steps.{IsTrialCache, TrialWorks}
 use Rattle.dsc_tool.specs.Stops.{view_stop}
@@ -36,11 +36,11 @@ text_is seed count cache trial =
     ap₂ (λ (images long : ℕ). trial_line images (length (view_of cache).words) long (sum cache)) (sym (length-generated seed count (record { pages = 4; pointers = 100; links = 20 }))) (sym trial.span_is)
 
 pub trial_told : (seed count : ℕ) (cache read line : List ℕ) (m : Made) → IsTrialCache seed count cache → read ≡ cache → line ≡ trial_line count (length (view_of read).words) (length read) (sum read)
-    → m ≡ record { files = []; text = line } → TrialWorks seed count m
+    → m ≡ text_made line → TrialWorks seed count m
 trial_told seed count cache read line m trial is told made =
     let line_is : line ≡ trial_text (trial_files seed count) cache =
     told ∙ (ap (λ (c : List ℕ). trial_line count (length (view_of c).words) (length c) (sum c)) is ∙ text_is seed count cache trial) in
-    (cache, trial, subst (λ (text : List ℕ). m ≡ record { files = []; text = text }) line_is made)
+    (cache, trial, subst (λ (text : List ℕ). m ≡ text_made text) line_is made)
 
 -- nothing is found in a cache that is sound
 sound_view : (cache : List ℕ) → IsSoundCache cache → view_finding cache ≡ None

@@ -15,17 +15,25 @@ use Rattle.dsc_tool.specs.Options.{delta_bits}
 use Rattle.dsc_tool.specs.Inputs.{Contents}
 use Rattle.dsc_tool.specs.Texts.{built_line, list_text, info_text, trial_line}
 use Rattle.dsc_tool.specs.Words.{Order, build, list, info, trial}
+use Rattle.dsc_tool.specs.declared.status.Ending.{Ending}
+use Rattle.dsc_tool.specs.declared.status.Ending.TheVariants.{Done}
 use Rattle.dsc_tool.specs.declared.stop.Stop.{Stop}
 use Rattle.dsc_tool.specs.declared.stop.Stop.TheVariants.{Refused, Flawed}
 
--- files to put, each by its name and its bytes, in their order, and then a text for standard output
+-- files to put, each by its name and its bytes, in their order, and then a text for standard output; and how the run ends where all of it is put
 pub record Made : Type 0 where
+  pub ending : Ending
   pub files : List (List ℕ × List ℕ)
   pub text : List ℕ
+
+-- a text alone
+abbrev pub text_made : List ℕ → Made
+text_made text = record { ending = Done; files = []; text = text }
 
 -- the cache of files that are accepted, and a line that tells of it
 abbrev pub cache_made : List ℕ → List (List ℕ) → Made
 cache_made out files = record {
+  ending = Done;
   files = (out, built delta_bits files) ∷ [];
   text = built_line (length files) (span (built delta_bits files));
 }
@@ -36,12 +44,12 @@ build_made out files (Some b) = Err (Refused b)
 build_made out files None = Ok (cache_made out files)
 
 -- a text on a cache, by the first finding in its head
-abbrev pub text_made : (Head → List ℕ) → List ℕ → Option Finding → Result Made Stop
-text_made text cache (Some f) = Err (Flawed f)
-text_made text cache None = Ok record { files = []; text = text (head_read cache) }
+abbrev pub told_of : (Head → List ℕ) → List ℕ → Option Finding → Result Made Stop
+told_of text cache (Some f) = Err (Flawed f)
+told_of text cache None = Ok (text_made (text (head_read cache)))
 
 abbrev pub head_made : (Head → List ℕ) → List ℕ → Result Made Stop
-head_made text cache = text_made text cache (head_finding cache)
+head_made text cache = told_of text cache (head_finding cache)
 
 -- trial dylibs: text and data of four pages each, with 100 pointers and deltas and with 20 links
 abbrev pub trial_files : ℕ → ℕ → List (List ℕ)
@@ -54,7 +62,7 @@ trial_text files cache = trial_line (length files) (length (view_of cache).words
 -- of trial dylibs, by the first rule that they break
 abbrev pub trial_made : List (List ℕ) → Option Break → Result Made Stop
 trial_made files (Some b) = Err (Refused b)
-trial_made files None = Ok record { files = []; text = trial_text files (built delta_bits files) }
+trial_made files None = Ok (text_made (trial_text files (built delta_bits files)))
 
 abbrev pub made : Order → Contents → Result Made Stop
 made (build options out names) c = build_made out c.files (set_break delta_bits c.files)

@@ -3,12 +3,11 @@ use Rattle.std.specs.Prelude.{ℕ, ◌+◌, ◌++◌, nat_lt, if◌then◌else�
 use Rattle.std.specs.FinMap.{get}
 use Rattle.dsc_base.specs.Outside.{Files}
 use Rattle.dsc_tool.specs.declared.status.Status.{Status}
-use Rattle.dsc_tool.specs.declared.status.Status.TheVariants.{Done}
 use Rattle.dsc_tool.specs.declared.stop.Stop.{Stop}
 use Rattle.dsc_tool.specs.declared.stop.Stop.TheVariants.{BadWords, Unread, Refused, Flawed}
 use Rattle.dsc_tool.specs.Inputs.{Contents, Names, inputs_of, cache_count, total}
 use Rattle.dsc_tool.specs.Made.{Made, made}
-use Rattle.dsc_tool.specs.Statuses.{status_of}
+use Rattle.dsc_tool.specs.Statuses.{status_at, status_of}
 use Rattle.dsc_tool.specs.Stops.{file_limit, input_limit, cache_limit, too_large, input_too_large, cache_too_large}
 use Rattle.dsc_tool.specs.Streams.{put_files}
 use Rattle.dsc_tool.specs.Texts.{text_of}
@@ -70,7 +69,7 @@ pub record Outcome : Type 0 where
 
 -- what is made is put, files first; a stop is told of on standard error
 abbrev pub outcome_of : Files → Result Made Stop → Outcome
-outcome_of files (Ok m) = record { status = Done; out = m.text; err = []; files = put_files files m.files }
+outcome_of files (Ok m) = record { status = status_at m.ending; out = m.text; err = []; files = put_files files m.files }
 outcome_of files (Err stop) = record { status = status_of stop; out = []; err = text_of stop; files = files }
 
 unfoldable pub output : List (List ℕ) → Files → Outcome

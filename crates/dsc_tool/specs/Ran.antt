@@ -30,10 +30,10 @@ pub record IsWorked (words : List (List ℕ)) (files : Option Files) : Type 0 wh
   pub is : IsMade words files order contents made
   pub promised : Promised order contents
 
--- All was done: what was made is put, the files at their names and then the text.
-pub record IsDone (words : List (List ℕ)) (before after : World) : Type 0 where
+-- What was made is put, the files at their names and then the text, and the status is what comes of it.
+pub record IsDone (words : List (List ℕ)) (before after : World) (status : Status) : Type 0 where
   pub worked : IsWorked words before.files
-  pub all : IsDelivered worked.made before after
+  pub all : IsDelivered worked.made before after status
 
 -- The run stopped for this cause before anything was put, and standard error tells of it.
 pub record IsStopped (words : List (List ℕ)) (before after : World) (stop : Stop) : Type 0 where
@@ -63,13 +63,13 @@ pub record IsLeftOff (words : List (List ℕ)) (before after : World) (status : 
 
 -- what is so after each status, over every store and sink
 abbrev pub Ends : List (List ℕ) → World → World → Status → Type 0
-Ends words before after Done = IsDone words before after
+Ends words before after Done = IsDone words before after Done
+Ends words before after Differs = IsDone words before after Differs
 Ends words before after Refused = ((b : Break) × IsStopped words before after (Broken b)) ⊎ ((f : Finding) × IsStopped words before after (Flawed f))
 Ends words before after BadWords = IsStopped words before after NoCommand
 Ends words before after ReadFault = (input : ℕ) × IsStopped words before after (Unread input)
 Ends words before after WriteFault = (IsUntold words before after ⊎ IsCutShort words before after) ⊎ IsLeftOff words before after WriteFault
 Ends words before after Memory = IsStopped words before after NoMemory ⊎ IsLeftOff words before after Memory
-Ends words before after Differs = ⊥
 
 -- the run ended as this outcome says: the status, the files, and all that was printed
 pub record IsOutcome (o : Outcome) (before after : World) (status : Status) : Type 0 where

@@ -2,6 +2,8 @@
 use Rattle.std.specs.Prelude.{ℕ}
 use Rattle.dsc_tool.specs.declared.status.Status.{Status}
 use Rattle.dsc_tool.specs.declared.status.Status.TheVariants.{Done, Refused, BadWords, ReadFault, WriteFault, Memory, Differs}
+use Rattle.dsc_tool.specs.declared.status.Ending.{Ending}
+use Rattle.dsc_tool.specs.declared.status.Ending.TheVariants.{Done as AllDone, Differs as NotAlike}
 use Rattle.dsc_tool.specs.declared.stop.Stop.{Stop}
 use Rattle.dsc_tool.specs.declared.stop.Stop.TheVariants.{BadWords as NoCommand, Unread, Refused as Broken, Flawed, Memory as NoMemory}
 
@@ -13,6 +15,11 @@ code_of ReadFault = 3
 code_of WriteFault = 4
 code_of Memory = 5
 code_of Differs = 6
+
+-- the status where all was put
+abbrev pub status_at : Ending → Status
+status_at AllDone = Done
+status_at NotAlike = Differs
 
 -- the status where a run stopped
 abbrev pub status_of : Stop → Status

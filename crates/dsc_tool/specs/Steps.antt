@@ -21,8 +21,8 @@ use Rattle.dsc_tool.specs.declared.stop.Stop.{Stop}
 use Rattle.dsc_tool.specs.declared.stop.Stop.TheVariants.{Refused as Broken, Flawed, Memory as NoMemory}
 use Rattle.dsc_tool.specs.Causes.{IsMade}
 use Rattle.dsc_tool.specs.Inputs.{AreRead, CacheCause, Contents, FilesCause}
-use Rattle.dsc_tool.specs.Made.{Made, Promised, build_made, cache_made, trial_files, trial_text}
-use Rattle.dsc_tool.specs.Statuses.{status_of}
+use Rattle.dsc_tool.specs.Made.{Made, Promised, build_made, cache_made, text_made, trial_files, trial_text}
+use Rattle.dsc_tool.specs.Statuses.{status_at, status_of}
 use Rattle.dsc_tool.specs.Stops.{cache_limit}
 use Rattle.dsc_tool.specs.Streams.{World, appended, with_files}
 use Rattle.dsc_tool.specs.Texts.{text_of, no_memory_line, cannot_write_line}
@@ -35,7 +35,7 @@ abbrev pub new_files : List NewFile → List (List ℕ × List ℕ)
 new_files files = map (λ f. (f.name, f.bytes.items)) files
 
 abbrev pub made_of : Product → Made
-made_of p = record { files = new_files p.files.items; text = p.text.items }
+made_of p = record { ending = p.ending; files = new_files p.files.items; text = p.text.items }
 
 -- the product is what the words come to, by the files
 abbrev pub IsProduct : List (List ℕ) → Option Files → Product → Type 0
@@ -65,7 +65,7 @@ pub record HasHead (files : Option Files) (name : List ℕ) (h : Head) : Type 0 
 
 -- and a text on it is made
 abbrev pub TextWorks : (Head → List ℕ) → Option Files → List ℕ → Made → Type 0
-TextWorks text files name m = (h : Head) × HasHead files name h × (m ≡ record { files = []; text = text h })
+TextWorks text files name m = (h : Head) × HasHead files name h × (m ≡ text_made (text h))
 
 -- a cache of this name wasn't read, or has a finding in its head
 abbrev pub HeadStop : Option Files → ℕ → ℕ → List ℕ → Stop → Type 0
@@ -84,7 +84,7 @@ pub record IsTrialCache (seed count : ℕ) (cache : List ℕ) : Type 0 where
 -- and a text on it is made
 abbrev pub TrialWorks : ℕ → ℕ → Made → Type 0
 TrialWorks seed count m =
-    (cache : List ℕ) × IsTrialCache seed count cache × (m ≡ record { files = []; text = trial_text (trial_files seed count) cache })
+    (cache : List ℕ) × IsTrialCache seed count cache × (m ≡ text_made (trial_text (trial_files seed count) cache))
 
 -- memory was wanting, or trial dylibs break a rule
 abbrev pub TrialStop : ℕ → ℕ → Stop → Type 0
@@ -126,8 +126,9 @@ PutsShort before after old new files PutMemory = PutsFew before after files
 
 -- ---- how a product is delivered
 
--- all was put
-pub record IsDelivered (m : Made) (before after : World) : Type 0 where
+-- all was put, and the run ends with this status
+pub record IsDelivered (m : Made) (before after : World) (status : Status) : Type 0 where
+  pub ended : status ≡ status_at m.ending
   pub files : after.files ≡ with_files before.files m.files
   pub out : after.out ≡ appended before.out m.text
   pub err : after.err ≡ before.err
@@ -156,10 +157,10 @@ pub record IsUnput (m : Made) (before after : World) (status : Status) : Type 0 
   pub err : Tells no_memory_line Memory before.err before.err_faults after.err after.err_faults status
 
 abbrev pub Delivers : Made → World → World → Status → Type 0
-Delivers m before after Done = IsDelivered m before after
+Delivers m before after Done = IsDelivered m before after Done
+Delivers m before after Differs = IsDelivered m before after Differs
 Delivers m before after WriteFault = IsUndelivered m before after ⊎ IsUnput m before after WriteFault
 Delivers m before after Memory = IsUnput m before after Memory
 Delivers m before after Refused = ⊥
 Delivers m before after BadWords = ⊥
 Delivers m before after ReadFault = ⊥
-Delivers m before after Differs = ⊥

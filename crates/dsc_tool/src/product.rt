@@ -1,13 +1,16 @@
 // What the words come to before anything is put.
 ghost use Rattle.std.specs.Prelude.{◌≡◌, [], ◌∷◌, IfOk, IfErr, map, string_bytes};
 ghost use Rattle.dsc_tool.specs.Causes.{IsDue};
+ghost use Rattle.dsc_tool.specs.Made.{text_made};
 ghost use Rattle.dsc_tool.specs.Steps.{IsProduct, made_of, BuildWorks, BuildStop, HasHead, TextWorks, HeadStop, TrialWorks, TrialStop};
 ghost use Rattle.dsc_tool.specs.Texts.{list_text, info_text};
 ghost use Rattle.dsc_tool.specs.Words.{IsBuild, IsTrial};
+ghost use Rattle.dsc_tool.specs.declared.status.Ending.TheVariants as endings;
 
 use crate::cache_text::{info_text, list_text};
 use crate::command::{Command, read_words};
 use crate::inputs::{read_cache, read_files};
+use crate::status::Ending;
 use crate::stop::Stop;
 use crate::text::built_text;
 use crate::trial::{summary, trial_cache};
@@ -24,9 +27,10 @@ pub struct NewFile {
     pub bytes: Vec<u8>,
 }
 
-/// Files to put, in their order, and then a text for standard output.
+/// Files to put, in their order, and then a text for standard output; and how the run ends where all is put.
 #[derive(Drop)]
 pub struct Product {
+    pub ending: Ending,
     pub files: Vec<NewFile>,
     pub text: Vec<u8>,
 }
@@ -84,13 +88,14 @@ fn prepare_build<R: Threads + Sync, S: Store, G: Gate + Sync>(
 }
 
 fn one_file(alloc: Global, name: Text, bytes: Vec<u8>, line: String) -> Result<Product, AllocError>
-    ensures { IfOk result (λ p. made_of p ≡ record { files = (name, bytes.items) ∷ []; text = string_bytes line }) }
+    ensures { IfOk result (λ p. made_of p ≡ record { ending = endings.Done; files = (name, bytes.items) ∷ []; text = string_bytes line }) }
 {
     let mut files = Vec::new(alloc);
     files
         .push(NewFile { name, bytes })
         .map_err(AllocError::from)?;
     Ok(Product {
+        ending: Ending::Done,
         files,
         text: line.into_bytes(),
     })
@@ -139,9 +144,10 @@ fn prepare_trial<R: Threads + Sync, G: Gate + Sync>(
 }
 
 fn only_text(alloc: Global, text: Vec<u8>) -> Product
-    ensures { made_of result ≡ record { files = []; text = text.items } }
+    ensures { made_of result ≡ text_made text.items }
 {
     Product {
+        ending: Ending::Done,
         files: Vec::new(alloc),
         text,
     }

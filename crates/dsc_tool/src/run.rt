@@ -72,7 +72,7 @@ fn deliver<S: Store, O: Sink, E: Sink>(
     if out.put(&product.text).is_err() {
         return tell(cannot_write_text(), Status::WriteFault, err);
     }
-    Status::Done
+    product.ending.status()
 }
 
 // Puts the files in their order. The first that isn't put ends this.

@@ -1,6 +1,6 @@
 // How a run ends.
 ghost use Rattle.std.specs.Prelude.{◌≡◌};
-ghost use Rattle.dsc_tool.specs.Statuses.{code_of};
+ghost use Rattle.dsc_tool.specs.Statuses.{code_of, status_at};
 
 /// How a run ended.
 #[derive(Clone, Copy, Debug, PartialEq, Eq)]
@@ -19,6 +19,27 @@ pub enum Status {
     Memory,
     /// A cache differs from its files.
     Differs,
+}
+
+/// How a run ends that has put all that it made.
+#[derive(Clone, Copy, Debug, PartialEq, Eq)]
+pub enum Ending {
+    /// Everything was done.
+    Done,
+    /// A cache differs from its files.
+    Differs,
+}
+
+impl Ending {
+    /// The status of the run.
+    pub(crate) fn status(self) -> Status
+        ensures { result ≡ status_at self }
+    {
+        match self {
+            Ending::Done => Status::Done,
+            Ending::Differs => Status::Differs,
+        }
+    }
 }
 
 impl Status {
