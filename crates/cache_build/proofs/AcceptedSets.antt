@@ -1,18 +1,17 @@
 -- Files that break no rule make images that can be built, up to what their words and their linkedit say.
-use Rattle.std.proofs.Common.{subst, ◌≡◌, ◌≤◌, ◌<◌, ℕ, Option, Some, None, List, [], length, get_or, All, refl, sym, ap, ◌∙◌, arith, inl, inr}
+use Rattle.std.proofs.Common.{subst, ◌≡◌, ◌≤◌, ◌<◌, ℕ, None, List, [], length, get_or, All, refl, sym, ap, ◌∙◌, arith, inl, inr}
 use Rattle.std.specs.Option.{option_or}
 use Rattle.std.proofs.lemmas.Bool.{cases_lt}
 use Rattle.std.proofs.lemmas.List.{get_or_default, length-map, get_or-map, get_or_past}
-use Rattle.dsc_base.specs.declared.fault.Break.{Break}
 use Rattle.dsc_base.specs.declared.rule.Rule.TheVariants.{ExportOutside}
 use Rattle.dsc_base.specs.Refusals.{broken, in_image, in_each}
 use Rattle.macho_image.specs.declared.form.Form.TheVariants.{Standalone}
 use Rattle.macho_image.specs.Records.{Img}
-use Rattle.macho_image.specs.Macho.{header_in, image_of, image_from, commands_of, command_where, is_dyld_info}
+use Rattle.macho_image.specs.Macho.{header_in, image_of, image_from}
 use Rattle.macho_image.specs.Rules.{breaks_wrong_kind}
 use Rattle.macho_image.specs.Breaks.{form_of}
 use Rattle.macho_image.specs.Segments.{segments_at}
-use Rattle.macho_image.proofs.Unbroken.{image_unbroken, kind_unbroken, form_is}
+use Rattle.macho_image.proofs.Unbroken.{image_unbroken, kind_unbroken, form_is, or_none}
 use Rattle.cache_layout.specs.Layouts.{layout_of, layout_break}
 use Rattle.slide_chain.specs.Making.{chains_break}
 use Rattle.export_trie.specs.declared.export.Export.{Export}
@@ -22,7 +21,7 @@ use Rattle.prebind.specs.Agree.{HaveExportsInside}
 use Rattle.prebind.proofs.SetLaws.{sound_set}
 use Rattle.load_model.specs.Phases.{dylib_of, images_of, shape_break, files_break}
 use Rattle.load_model.proofs.AcceptedFiles.{AreAccepted, accepted_files}
-use Rattle.load_model.proofs.SliceLaws.{dylib_bytes}
+use Rattle.macho_image.proofs.SliceLaws.{dylib_bytes}
 use Rattle.load_model.proofs.SoundSets.{unbroken_shape, each_none, sound_images}
 use Rattle.ref_rewrite.specs.Breaks.{rewrite_break}
 use Rattle.linkedit_merge.specs.Linkedit.{merge_break}
@@ -81,7 +80,7 @@ accepted_set files few bytes none fits =
 -- ---- their exports
 
 -- an image that there is none of has none
-no_export : (set : ImageSet) (k : ℕ) → length set.streams ≤ k → export_break set k ≡ None
+pub no_export : (set : ImageSet) (k : ℕ) → length set.streams ≤ k → export_break set k ≡ None
 unfolding export_break
 no_export set k past =
     let none : get_or (exports_in set.streams) k [] ≡ [] =
@@ -100,14 +99,10 @@ exports_inside is accepted k = elim (cases_lt k (length is)) [
 
 -- ---- what they break behind their layout
 
-neither : (a b : Option Break) → option_or a b ≡ None → (a ≡ None) × (b ≡ None)
-neither None b none = (refl, none)
-neither (Some x) b some = absurd (cc)
-
 pub buildable_set : (bits : ℕ) (is : List Img) → 1 ≤ bits → bits ≤ 16 → IsAccepted is → behind_layout bits (layout_of is) (image_set is) ≡ None → IsBuildable bits is
 unfolding behind_layout image_set
 buildable_set bits is some most accepted none =
-    let one = neither (rewrite_break (layout_of is) (image_set is)) _ none in
-    let two = neither (chains_break bits (layout_of is).writable.len (set_chained is)) _ one.1 in
-    let three = neither (merge_break (layout_of is) (length (set_slide bits is)) (set_shares is)) None two.1 in
+    let one = or_none (rewrite_break (layout_of is) (image_set is)) _ none in
+    let two = or_none (chains_break bits (layout_of is).writable.len (set_chained is)) _ one.1 in
+    let three = or_none (merge_break (layout_of is) (length (set_slide bits is)) (set_shares is)) None two.1 in
     record { some = some; most = most; accepted = accepted; rewritten = one.0; chains = two.0; merged = three.0 }

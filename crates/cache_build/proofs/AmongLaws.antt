@@ -1,6 +1,6 @@
 -- Edits that are among those of lists which are joined of what each item and its number give.
-use Rattle.std.proofs.Common.{◌≡◌, ◌⊎◌, ℕ, zero, suc, ◌+◌, Bool, true, false, cond, Some, List, [], ◌∷◌, ◌++◌, map, refl, ap, subst, ◌∙◌, arith, inl, inr}
-use Rattle.std.specs.Prelude.{filter, slice_get}
+use Rattle.std.proofs.Common.{◌≡◌, ◌⊎◌, ℕ, zero, suc, ◌+◌, Bool, true, false, cond, Some, List, [], ◌∷◌, ◌++◌, map, refl, subst, arith, inl, inr}
+use Rattle.std.specs.Prelude.{slice_get}
 use Rattle.std.specs.List.{flat_map, enumerate_from}
 use Rattle.dsc_base.specs.declared.edits.Edit.{Edit}
 use Rattle.dsc_base.specs.Edits.{IsAmong}
@@ -84,13 +84,6 @@ passed_later : {X : Type 0} (f : X → Edit) (b : Bool) (e : Edit) (x : X) (rest
 passed_later f true e x rest later = inr later
 passed_later f false e x rest later = later
 
-pub among_passed : {X : Type 0} (f : X → Edit) (test : X → Bool) (xs : List X) (k : ℕ) (x : X) → slice_get xs k ≡ Some x → test x ≡ true → IsAmong (f x) (map f (filter test xs))
-among_passed f test [] k x got is = absurd (cc)
-among_passed {X} f test (y ∷ ys) zero x got is =
-    let same : y ≡ x = cc in
-    subst (λ (z : X). IsAmong (f z) (map f (cond (test y) (y ∷ filter test ys) (filter test ys)))) same (passed_here f (test y) y (filter test ys) (ap test same ∙ is))
-among_passed f test (y ∷ ys) (suc k) x got is = passed_later f (test y) (f x) y (filter test ys) (among_passed f test ys k x got is)
-
 pub record IsPassed {X : Type 0} (f : X → Edit) (test : X → Bool) (xs : List X) (e : Edit) : Type 0 where
   pub number : ℕ
   pub item : X
@@ -102,12 +95,3 @@ passed_one : {X : Type 0} (f : X → Edit) (b : Bool) (e : Edit) (x : X) (rest :
 passed_one f true e x rest (inl is) = inl (refl, is)
 passed_one f true e x rest (inr later) = inr later
 passed_one f false e x rest later = inr later
-
-pub passed_of : {X : Type 0} (f : X → Edit) (test : X → Bool) (xs : List X) (e : Edit) → IsAmong e (map f (filter test xs)) → IsPassed f test xs e
-passed_of f test [] e there = absurd there
-passed_of f test (y ∷ ys) e there = elim (passed_one f (test y) e y (filter test ys) there) [
-  | inl here ↦ record { number = 0; item = y; item_is = refl; passes = here.0; same = here.1 }
-  | inr later ↦
-      let rest : IsPassed f test ys e = passed_of f test ys e later in
-      record { number = suc rest.number; item = rest.item; item_is = rest.item_is; passes = rest.passes; same = rest.same }
-]

@@ -1,5 +1,5 @@
 -- Sets of images that break no rule, and the parts of their caches.
-use Rattle.std.proofs.Common.{◌≡◌, ◌≤◌, ◌<◌, ℕ, ◌+◌, ◌%◌, ◌^◌, Some, None, List, [], length, map, get_or, All}
+use Rattle.std.proofs.Common.{◌≡◌, ◌≤◌, ◌<◌, ℕ, ◌+◌, ◌%◌, ◌^◌, Some, None, List, length, map, get_or, All}
 use Rattle.std.specs.Prelude.{slice_get, nat_eq, if◌then◌else◌}
 use Rattle.std.specs.List.{list_any}
 use Rattle.dsc_base.specs.declared.edits.Edit.{Edit}

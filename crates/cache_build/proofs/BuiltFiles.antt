@@ -1,9 +1,7 @@
 -- Files that break no rule make a cache that corresponds to them, whose mappings are as long as it, and which is sound.
-use Rattle.std.proofs.Common.{◌≡◌, ◌≤◌, ℕ, ◌+◌, ◌-◌, Option, Some, None, List, length, Vec, Global, refl, sym, ap, ◌∙◌, arith}
+use Rattle.std.proofs.Common.{◌≡◌, ◌≤◌, ℕ, ◌+◌, ◌-◌, None, List, length, Vec, Global, sym, ap, ◌∙◌, arith}
 use Rattle.std.specs.List.{sum_by}
-use Rattle.std.specs.Option.{option_or}
 use Rattle.std.proofs.lemmas.List.{length-map}
-use Rattle.dsc_base.specs.declared.fault.Break.{Break}
 use Rattle.macho_image.specs.Records.{Img}
 use Rattle.cache_header.specs.declared.head.Mapping.{Mapping}
 use Rattle.cache_header.specs.Reading.{span}
@@ -31,10 +29,7 @@ use Rattle.cache_build.proofs.SoundCaches.{sound_cache}
 use Rattle.cache_build.proofs.SoundImages.{images_sound}
 use Rattle.cache_check.specs.Images.{images_finding}
 use Rattle.cache_check.specs.Views.{view_of}
-
-neither : (a b : Option Break) → option_or a b ≡ None → (a ≡ None) × (b ≡ None)
-neither None b none = (refl, none)
-neither (Some x) b some = absurd (cc)
+use Rattle.macho_image.proofs.Unbroken.{or_none}
 
 -- what a set that breaks no rule has, by phases
 pub record BreaksNone (bits : ℕ) (files : List (List ℕ)) : Type 0 where
@@ -46,9 +41,9 @@ pub set_parts : (bits : ℕ) (files : List (List ℕ)) → set_break bits files 
 unfolding set_break
 set_parts bits files none =
     let is : List Img = images_of files in
-    let one = neither (files_break files) _ none in
-    let two = neither (layout_break is) _ one.1 in
-    let three = neither (behind_layout bits (layout_of is) (image_set is)) None two.1 in
+    let one = or_none (files_break files) _ none in
+    let two = or_none (layout_break is) _ one.1 in
+    let three = or_none (behind_layout bits (layout_of is) (image_set is)) None two.1 in
     record { read = one.0; layout = two.0; behind = three.0 }
 
 buildable : (bits : ℕ) (files : List (List ℕ)) → 1 ≤ bits → bits ≤ 16 → length files ≤ 4096 → AreFiles files → set_break bits files ≡ None → IsBuildable bits (images_of files)

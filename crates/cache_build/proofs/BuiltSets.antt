@@ -6,7 +6,6 @@ use Rattle.dep_closure.specs.Linked.{Linked, links_of}
 use Rattle.prebind.specs.declared.resolved.PlacedWord.{PlacedWord}
 use Rattle.prebind.specs.Sets.{StreamLists, ImageSet, lists_of, image_set}
 use Rattle.cache_layout.specs.Layouts.{Laid, layout_of, layout_break}
-use Rattle.load_model.specs.Placed.{AreAllPlaced as AreHeldPlaced}
 use Rattle.load_model.specs.Phases.{images_of, files_break}
 use Rattle.cache_build.specs.Cache.{cache_from}
 use Rattle.cache_build.specs.Filling.{IsPrepared, CanBuild}
@@ -16,8 +15,10 @@ use Rattle.cache_build.proofs.BuildLaws.{set_behind}
 use Rattle.cache_build.proofs.BuildableSets.{IsAccepted}
 use Rattle.cache_build.proofs.FreeBits.{can_build}
 use Rattle.cache_build.proofs.MovedSpots.{can_move_each}
-use Rattle.cache_build.proofs.PreparedSets.{lists_held, placed_lists, prepared}
+use Rattle.cache_build.proofs.PreparedSets.{lists_held, prepared}
 use Rattle.cache_build.proofs.SetEdits.{has_edits}
+use Rattle.load_model.specs.Placed.{AreAllPlaced}
+use Rattle.prebind.proofs.PlacedLists.{items_placed}
 
 -- what a build has at hand of files, once they are read and laid out
 pub record IsRead (files : List (List ℕ)) (images laid_images : List Img) (streams : List StreamLists) (tables : List Tabs) (links : Linked) (words : List (Vec PlacedWord Global)) (l : Laid) : Type 0 where
@@ -27,7 +28,7 @@ pub record IsRead (files : List (List ℕ)) (images laid_images : List Img) (str
   pub streams_are : streams ≡ map lists_of (images_of files)
   pub tables_are : tables ≡ map tables_of (images_of files)
   pub links_are : links ≡ links_of (images_of files)
-  pub words_placed : AreHeldPlaced (image_set (images_of files)) words
+  pub words_placed : AreAllPlaced (image_set (images_of files)) words
   pub unbroken : files_break files ≡ None
   pub laid_of : laid_images ≡ images_of files
   pub laid : l ≡ layout_of laid_images
@@ -57,7 +58,7 @@ read_prepared : (files : List (List ℕ)) (images laid_images : List Img) (strea
 read_prepared files images laid_images streams tables links words l r =
     let is : List Img = images_of files in
     let accepted : IsAccepted (images_of files) = read_accepted files images laid_images streams tables links words l r in
-    let all : IsPrepared (image_set (images_of files)) (map tables_of (images_of files)) (lists_held words) (layout_of (images_of files)) = prepared is (lists_held words) accepted (placed_lists (image_set is) words r.words_placed) in
+    let all : IsPrepared (image_set (images_of files)) (map tables_of (images_of files)) (lists_held words) (layout_of (images_of files)) = prepared is (lists_held words) accepted (items_placed (λ (v : Vec PlacedWord Global). v.items) (image_set is) words r.words_placed) in
     subst (λ (s : ImageSet). IsPrepared s tables (lists_held words) l) (sym (read_set files images laid_images streams tables links words l r))
     (subst (λ (ts : List Tabs). IsPrepared (image_set is) ts (lists_held words) l) (sym r.tables_are)
     (subst (λ (m : Laid). IsPrepared (image_set is) (map tables_of is) (lists_held words) m) (sym (read_layout files images laid_images streams tables links words l r)) all))

@@ -8,7 +8,7 @@ use Rattle.macho_image.specs.Macho.{header_in, image_of, image_from, segment_of,
 use Rattle.cache_layout.specs.Apart.{IsSegment}
 use Rattle.cache_layout.proofs.NumberedLaws.{map-push, take-step}
 use Rattle.load_model.specs.Phases.{contents, dylib_of, images_of}
-use Rattle.load_model.proofs.SliceLaws.{dylib_bytes}
+use Rattle.macho_image.proofs.SliceLaws.{dylib_bytes}
 
 -- what lies behind a list's end counts as 0
 pub read_byte : (bytes : List ℕ) → All (λ b. b < 256) bytes → (n : ℕ) → get_or bytes n 0 < 256

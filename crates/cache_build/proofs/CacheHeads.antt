@@ -19,7 +19,7 @@ use Rattle.cache_build.proofs.SoundIdentifiers.{identifier_long}
 use Rattle.cache_build.proofs.HeadRooms.{CanTell, IsLowFrame, head_fits as numbers_fit, head_writable as writable, entries_are as entries_told, head_room as room}
 use Rattle.cache_build.proofs.BuildableSets.{IsAccepted, IsBuildable, set_slide, set_start, set_span, set_frame, set_head}
 use Rattle.cache_build.proofs.CachePlaces.{in_turn, span_low, starts_at}
-use Rattle.cache_build.proofs.CachedPages.{length-padded}
+use Rattle.ref_rewrite.proofs.PageLaws.{padded_long}
 
 -- ---- what it tells of images
 
@@ -80,4 +80,4 @@ head_room : (bits : ℕ) (is : List Img) → IsBuildable bits is → length (hea
 head_room bits is buildable = room is (set_frame bits is) (can_tell is buildable.accepted) (low_frame bits is buildable)
 
 pub head_long : (bits : ℕ) (is : List Img) → IsBuildable bits is → length (padded (layout_of is).text.at (head_bytes (set_head bits is))) ≡ (layout_of is).text.at
-head_long bits is buildable = length-padded (layout_of is).text.at (head_bytes (set_head bits is)) (head_room bits is buildable)
+head_long bits is buildable = padded_long (layout_of is).text.at (head_bytes (set_head bits is)) (head_room bits is buildable)

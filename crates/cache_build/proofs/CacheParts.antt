@@ -1,5 +1,5 @@
 -- The parts of a cache: how long they are, and where each stands in the file.
-use Rattle.std.proofs.Common.{◌≡◌, ◌≤◌, ◌<◌, ℕ, ◌+◌, ◌-◌, List, [], ◌++◌, length, get_or, replicate, refl, sym, ap, ap₂, ◌∙◌, arith, inl, inr, length-append, append_assoc}
+use Rattle.std.proofs.Common.{◌≡◌, ◌≤◌, ◌<◌, ℕ, ◌+◌, ◌-◌, List, ◌++◌, length, get_or, replicate, refl, sym, ap, ap₂, ◌∙◌, arith, inl, inr, length-append, append_assoc}
 use Rattle.std.proofs.lemmas.Bool.{cases_lt}
 use Rattle.std.proofs.lemmas.List.{get_or-append-add, get_or-append_right}
 use Rattle.std.proofs.Math.ListN.{get_or-append}
@@ -18,15 +18,15 @@ use Rattle.cache_layout.proofs.RoomLaws.{paged-covers}
 use Rattle.slide_chain.specs.Linked.{linked_data}
 use Rattle.prebind.specs.Sets.{image_set}
 use Rattle.ref_rewrite.specs.Rewritten.{edits_in}
-use Rattle.linkedit_merge.specs.Linkedit.{parts_of, linkedit_size, linkedit_of}
-use Rattle.linkedit_merge.proofs.PartLaws.{length-joined}
-use Rattle.linkedit_merge.specs.Shares.{Share}
+use Rattle.linkedit_merge.specs.Linkedit.{linkedit_size, linkedit_of}
 use Rattle.cache_build.specs.Places.{frame_of}
 use Rattle.cache_build.specs.Cache.{tail_of, cache_from, cache_of}
 use Rattle.cache_build.proofs.BuildableSets.{IsAccepted, IsBuildable, set_edits, set_chained, set_slide, set_shares, set_start, set_span, set_frame, set_pages, set_mapping, set_head, cache_around, set_range, slid_range}
 use Rattle.cache_build.proofs.CachePlaces.{in_turn, starts_at}
-use Rattle.cache_build.proofs.CachedPages.{length-padded, pages_whole}
+use Rattle.cache_build.proofs.CachedPages.{pages_whole}
 use Rattle.cache_build.proofs.CacheHeads.{head_long}
+use Rattle.linkedit_merge.proofs.MergeLaws.{length-linkedit_of}
+use Rattle.ref_rewrite.proofs.PageLaws.{padded_long}
 
 -- ---- three ranges
 
@@ -61,10 +61,6 @@ length-mapping bits is accepted m = length-mapping_part m (set_pages bits is) is
 abbrev pub set_tail : ℕ → List Img → List ℕ
 set_tail bits is = tail_of (set_frame bits is) (set_slide bits is) (linkedit_of (set_shares is))
 
-length-linkedit : (shares : List Share) → length (linkedit_of shares) ≡ linkedit_size shares
-unfolding linkedit_of linkedit_size
-length-linkedit shares = length-joined [] (parts_of shares)
-
 -- slide information with zeros up to the linkedit
 abbrev pub slide_pages : ℕ → List Img → List ℕ
 slide_pages bits is = padded (set_start bits is - ((layout_of is).fixed.at + (layout_of is).fixed.len)) (set_slide bits is)
@@ -79,11 +75,11 @@ tail_parts bits is = refl
 pub length-slide_pages : (bits : ℕ) (is : List Img) → IsAccepted is → length (slide_pages bits is) ≡ paged (length (set_slide bits is))
 length-slide_pages bits is accepted =
     let start : set_start bits is ≡ (layout_of is).fixed.at + (layout_of is).fixed.len + paged (length (set_slide bits is)) = starts_at bits is accepted in
-    length-padded (set_start bits is - ((layout_of is).fixed.at + (layout_of is).fixed.len)) (set_slide bits is) (omega (arith, start, paged-covers (length (set_slide bits is)))) ∙ omega (arith, start)
+    padded_long (set_start bits is - ((layout_of is).fixed.at + (layout_of is).fixed.len)) (set_slide bits is) (omega (arith, start, paged-covers (length (set_slide bits is)))) ∙ omega (arith, start)
 
 length-linkedit_pages : (bits : ℕ) (is : List Img) → length (linkedit_pages bits is) ≡ paged (linkedit_size (set_shares is))
 length-linkedit_pages bits is =
-    length-padded (set_span bits is - set_start bits is) (linkedit_of (set_shares is)) (omega (arith, length-linkedit (set_shares is), paged-covers (linkedit_size (set_shares is)))) ∙ omega arith
+    padded_long (set_span bits is - set_start bits is) (linkedit_of (set_shares is)) (omega (arith, length-linkedit_of (set_shares is), paged-covers (linkedit_size (set_shares is)))) ∙ omega arith
 
 -- ---- where each part stands
 

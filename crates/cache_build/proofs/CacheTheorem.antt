@@ -1,11 +1,9 @@
 -- The cache of a set that breaks no rule corresponds to its files, wherever they are loaded and at every permitted slide.
-use Rattle.std.proofs.Common.{◌≡◌, ◌≤◌, ◌<◌, ℕ, ◌+◌, ◌-◌, Some, None, List, [], length, get_or, sym, ◌∙◌, subst, arith}
-use Rattle.std.specs.Prelude.{slice_get, slice_index_or, nat_eq}
-use Rattle.std.proofs.lemmas.Bool.{cond-false, ne_eqb}
+use Rattle.std.proofs.Common.{◌≡◌, ◌<◌, ℕ, ◌+◌, ◌-◌, Some, List, [], length, get_or, sym, ◌∙◌, subst, arith}
+use Rattle.std.specs.Prelude.{slice_get, slice_index_or}
 use Rattle.std.proofs.lemmas.Option.{slice_get_within, get_or_from_slice_get}
 use Rattle.macho_image.specs.Records.{Img}
 use Rattle.macho_image.specs.declared.section.Section.{Section}
-use Rattle.macho_image.specs.Places.{numbered_section}
 use Rattle.macho_image.specs.Segments.{header_address}
 use Rattle.cache_layout.specs.Layouts.{layout_of}
 use Rattle.prebind.specs.Sets.{image_set}
@@ -26,9 +24,7 @@ use Rattle.cache_build.proofs.SetWords.{SetWord, in_set}
 use Rattle.cache_build.proofs.CachedWords.{Stands, word_stands_at, image_sound}
 use Rattle.cache_build.proofs.MappedWords.{IsCachedSet, word_mapped}
 use Rattle.cache_build.proofs.OtherBytes.{byte_mapped}
-
-numbered : (xs : List Section) (n : ℕ) (x : Section) → 1 ≤ n → slice_get xs (n - 1) ≡ Some x → numbered_section xs n ≡ Some x
-numbered xs n x counts got = cond-false (nat_eq n 0) None (slice_get xs (n - 1)) (ne_eqb n 0 (λ none. omega (arith, none, counts))) ∙ got
+use Rattle.macho_image.proofs.SectionLaws.{numbered}
 
 -- a word leads to its target on both sides
 word_corresponds : (bits : ℕ) (is : List Img) → IsCachedSet bits is → (slides : ℕ → ℕ) (slide k : ℕ) (i : Img) → slice_get is k ≡ Some i → IsLoaded (image_set is) slides k i → (w : Word) → IsWordOf (words_of (image_set is) k) w

@@ -1,16 +1,15 @@
 -- The pages of each segment of a set in its cache, which are whole, and the header in front of the first one, which is as long as the image's own.
-use Rattle.std.proofs.Common.{◌≡◌, ◌≤◌, ◌<◌, ℕ, zero, suc, ◌+◌, ◌-◌, Option, List, [], ◌++◌, take, drop, length, map, get_or, replicate, refl, sym, ap, ◌∙◌, subst, arith, length-append, length-drop}
+use Rattle.std.proofs.Common.{◌≡◌, ◌≤◌, ◌<◌, ℕ, ◌+◌, Option, List, [], ◌++◌, take, length, map, get_or, refl, sym, ap, ◌∙◌, subst, arith, length-append}
 use Rattle.std.specs.Prelude.{slice_index_or}
 use Rattle.std.specs.List.{concat}
-use Rattle.std.proofs.lemmas.List.{length-take-le, length-replicate, get_or-map}
+use Rattle.std.proofs.lemmas.List.{length-take-le, get_or-map}
 use Rattle.std.proofs.lemmas.Option.{slice_get_read}
-use Rattle.dsc_base.specs.Region.{paged, padded}
+use Rattle.dsc_base.specs.Region.{paged}
 use Rattle.macho_image.specs.declared.place.Moved.{Moved}
 use Rattle.macho_image.specs.Records.{Seg, Img}
 use Rattle.macho_image.specs.Segments.{segments_in}
 use Rattle.macho_edit.specs.declared.spots.LinkSpots.{LinkSpots}
 use Rattle.macho_edit.specs.Cached.{cached_commands, cached_front, kept_header, cached_bytes}
-use Rattle.macho_edit.proofs.SoundLaws.{sound_rules, header_front}
 use Rattle.macho_edit.proofs.FrontLaws.{cached_fit, length-cached_front}
 use Rattle.nlist_table.specs.Symbols.{Tabs, tables_of}
 use Rattle.cache_layout.specs.Layouts.{layout_of}
@@ -25,6 +24,10 @@ use Rattle.linkedit_merge.specs.Linkedit.{spots_in, spots_of}
 use Rattle.cache_build.specs.Cache.{no_spots, header_of}
 use Rattle.cache_build.proofs.BuildableSets.{IsAccepted, set_shares, set_start, set_spots, set_headers, set_pages}
 use Rattle.cache_build.proofs.CachePlaces.{sound_in}
+use Rattle.macho_image.proofs.HeaderRules.{sound_rules}
+use Rattle.macho_image.proofs.WalkLaws.{sound_front}
+use Rattle.ref_rewrite.proofs.PageLaws.{padded_long}
+use Rattle.cache_build.proofs.SizedPages.{headed_long}
 
 -- ---- the spots of an image
 
@@ -59,27 +62,20 @@ spots_six bits is k i lt at = ap (λ (s : LinkSpots). length s.groups) (spots_ar
 
 -- ---- headers
 
-pub length-padded : (size : ℕ) (bytes : List ℕ) → length bytes ≤ size → length (padded size bytes) ≡ size
-length-padded size bytes le = length-append bytes (replicate (size - length bytes) 0) ∙ omega (arith, le, length-replicate {A = ℕ} (size - length bytes) 0)
-
 pub sized : (bits : ℕ) (is : List Img) → IsAccepted is → (k : ℕ) (i : Img) → k < length is → i ≡ get_or is k i → length (header_of (layout_of is) (set_spots bits is) k i) ≡ length i.header
 unfolding cached_bytes kept_header
 sized bits is accepted k i lt at =
     let rules = sound_rules i (sound_in is accepted k i lt at) in
-    let front : 32 ≤ length i.header = header_front i.header rules.magic in
+    let front : 32 ≤ length i.header = sound_front i (sound_in is accepted k i lt at) in
     let moves : List Moved = slice_index_or (layout_of is).moves k [] in
     let spots : LinkSpots = slice_index_or (set_spots bits is) k no_spots in
     let cs : List (List ℕ) = cached_commands spots moves i.header in
     let fits : 32 + length (concat cs) ≤ length i.header = cached_fit spots moves i.header (spots_six bits is k i lt at) front rules.shape in
     let short : length (take 32 i.header) ≡ 32 = length-take-le 32 i.header front in
-    length-padded (length i.header) (cached_front (length cs) (length (concat cs)) (take 32 i.header) ++ concat cs)
+    padded_long (length i.header) (cached_front (length cs) (length (concat cs)) (take 32 i.header) ++ concat cs)
     (omega (arith, fits, length-append (cached_front (length cs) (length (concat cs)) (take 32 i.header)) (concat cs), length-cached_front (length cs) (length (concat cs)) (take 32 i.header) (omega (arith, short)), short))
 
 -- ---- pages
-
-length-front : (header : List ℕ) (g : ℕ) (s : Seg) → (g ≡ 0 → length header ≤ length s.bytes) → length (bytes_with header g s) ≡ length s.bytes
-length-front header zero s fits = length-append header (drop (length header) s.bytes) ∙ omega (arith, fits refl, length-drop (length header) s.bytes)
-length-front header (suc g) s fits = refl
 
 pub pages_are : (bits : ℕ) (is : List Img) (k g : ℕ) (i : Img) (s : Seg) → IsSegment is k g i s → set_pages bits is k g ≡ pages_of (header_of (layout_of is) (set_spots bits is) k i) g s
 pages_are bits is k g i s there =
@@ -96,8 +92,8 @@ length-pages bits is accepted k g i s there =
     let room : g ≡ 0 → length (header_of (layout_of is) (set_spots bits is) k i) ≤ length s.bytes =
     λ first. (let own : length i.header ≤ length s.bytes = header_fits i sound s (omega (arith, there.segment_in, first)) (subst (λ (n : ℕ). s ≡ get_or i.segments n s) first there.segment_is) in
     omega (arith, own, sized bits is accepted k i there.image_in there.image_is)) in
-    length-padded (paged s.vmsize) (bytes_with header g s)
-    (omega (arith, length-front header g s room, bytes_fit i sound g s there.segment_in there.segment_is, paged-covers s.vmsize))
+    padded_long (paged s.vmsize) (bytes_with header g s)
+    (omega (arith, headed_long header g s room, bytes_fit i sound g s there.segment_in there.segment_is, paged-covers s.vmsize))
 
 pub pages_whole : (bits : ℕ) (is : List Img) → IsAccepted is → AreWholePages (set_pages bits is) is
 pages_whole bits is accepted k g i s there owned =

@@ -34,8 +34,8 @@ use Rattle.ref_rewrite.specs.Moving.{new_address}
 use Rattle.ref_rewrite.proofs.HomeLaws.{section_owned}
 use Rattle.ref_rewrite.proofs.FitLaws.{segment_there, offset_is}
 use Rattle.cache_build.proofs.BuildableSets.{IsAccepted}
-use Rattle.cache_build.proofs.Protections.{writable_mapping}
-use Rattle.cache_build.proofs.SetWords.{SetWord, set_words, edit_at, IsOfSet, of_set}
+use Rattle.cache_build.proofs.SetWords.{SetWord, set_words, edit_at, IsOfSet, of_set, images_are}
+use Rattle.ref_rewrite.proofs.FollowingLaws.{writable_mapping}
 
 -- a word in its section and its segment, and in the file
 pub record Stands (is : List Img) (x : SetWord) : Type 0 where
@@ -52,10 +52,6 @@ pub record Stands (is : List Img) (x : SetWord) : Type 0 where
   pub from : segment.vmaddr ≤ in_section.section.addr
   pub to : in_section.section.addr + in_section.section.size ≤ segment.vmaddr + segment.vmsize
   pub place : (edit_at is x).at ≡ (move_at (layout_of is) x.number x.word.at.segment).file + (x.word.at.address - segment.vmaddr)
-
-images_are : (is : List Img) (k : ℕ) (i : Img) → slice_get is k ≡ Some i → slice_get (image_set is).images k ≡ Some i
-unfolding image_set
-images_are is k i got = got
 
 pub image_sound : (is : List Img) → IsAccepted is → (k : ℕ) (i : Img) → slice_get is k ≡ Some i → IsSound i
 image_sound is accepted k i got = subst IsSound (get_or_from_slice_get is k i i got) (accepted.sound k i (slice_get_within is k i got))

@@ -1,13 +1,11 @@
 -- Which words of a set are chained in its cache: the pointers that lead to places, and no others.
-use Rattle.std.proofs.Common.{◌≡◌, ◌≤◌, ◌<◌, ℕ, ◌+◌, ◌-◌, Bool, true, false, ◌&&◌, List, map, refl, sym, ap, ◌∙◌, subst, arith, inl, inr}
+use Rattle.std.proofs.Common.{◌≡◌, ◌≤◌, ℕ, ◌+◌, ◌-◌, Bool, true, false, ◌&&◌, List, map, refl, sym, ap, ◌∙◌, subst, arith, inl, inr}
 use Rattle.std.specs.Prelude.{nat_eq, filter}
 use Rattle.std.specs.List.{enumerate_from, list_any}
-use Rattle.std.proofs.lemmas.Bool.{cases_Bool, eqb-true, eq-eqb, false≢true}
+use Rattle.std.proofs.lemmas.Bool.{cases_Bool, eqb-true, eq-eqb, false≢true, and_parts}
 use Rattle.dsc_base.specs.Edits.{AllApart}
 use Rattle.macho_image.specs.Records.{Img}
-use Rattle.split_info.specs.declared.reference.RefKind.{RefKind}
-use Rattle.split_info.specs.declared.reference.RefKind.TheVariants.{Pointer64, Delta32, Delta64, ImageOff32}
-use Rattle.split_info.specs.References.{width_of}
+use Rattle.split_info.specs.declared.reference.RefKind.TheVariants.{Pointer64}
 use Rattle.split_info.specs.Overlap.{is_pointer}
 use Rattle.prebind.specs.declared.resolved.PlacedWord.{PlacedWord}
 use Rattle.prebind.specs.Sets.{image_set}
@@ -20,6 +18,7 @@ use Rattle.cache_build.proofs.BuildableSets.{IsAccepted, set_edits, set_chained}
 use Rattle.cache_build.proofs.Memberships.{IsOfOne, of_flat, in_flat, in_enumerated, of_any, in_any, IsByteOf}
 use Rattle.cache_build.proofs.SetWords.{SetWord, words_at, numbered_words, set_words, edit_at, at_cases, IsOfSet, of_set, one_word}
 use Rattle.cache_build.proofs.CachedWords.{Stands, word_stands_at, pointer_in_data}
+use Rattle.split_info.proofs.OverlapLaws.{width_some}
 
 -- a pointer that leads to a place
 pub record IsChained (x : SetWord) : Type 0 where
@@ -34,10 +33,6 @@ record IsPlaceOf (is : List Img) (a : ℕ) : Type 0 where
   chained : IsChained word
   at : a ≡ (edit_at is word).at - (layout_of is).writable.at
 
-both_of : (a b : Bool) → a && b ≡ true → (a ≡ true) × (b ≡ true)
-both_of true b is = (refl, is)
-both_of false b is = absurd (cc)
-
 of_image : (is : List Img) (k : ℕ) (i : Img) (a : ℕ) → IsIn (enumerate_from 0 is) (k, i) → IsIn (image_chained (layout_of is) (image_set is) k i) a → IsPlaceOf is a
 of_image is k i a numbered there =
     let l : Laid = layout_of is in
@@ -45,7 +40,7 @@ of_image is k i a numbered there =
     let one : IsOfOne (chained_in l k i.segments placed) (enumerate_from 0 i.segments) a = of_flat (chained_in l k i.segments placed) (enumerate_from 0 i.segments) a there in
     let own : IsOf (data_offset l k i.segments) (filter (is_chained one.from.0) placed) a = of_map (data_offset l k i.segments) (filter (is_chained one.from.0) placed) a one.inside in
     let kept = of_filter (is_chained one.from.0) placed own.from own.there in
-    let parts = both_of (nat_eq own.from.at.segment one.from.0) (leads_to_place own.from.target) kept.1 in
+    let parts = and_parts (nat_eq own.from.at.segment one.from.0) (leads_to_place own.from.target) kept.1 in
     let w : Word = pointer_word own.from in
     let make : Word → SetWord = λ v. record { number = k; image = i; word = v } in
     let inside : IsIn (words_at (image_set is) k i) w =
@@ -104,12 +99,6 @@ chained_yes is accepted x there chained =
     in_any (λ a. nat_eq (edit_at is x).at ((layout_of is).writable.at + a)) (set_chained is) ((edit_at is x).at - (layout_of is).writable.at) (in_chained is accepted x there chained)
     (eq-eqb (edit_at is x).at ((layout_of is).writable.at + ((edit_at is x).at - (layout_of is).writable.at)) (omega (arith, low)))
 
-some_width : (kind : RefKind) → 0 < width_of kind
-some_width Pointer64 = omega arith
-some_width Delta32 = omega arith
-some_width Delta64 = omega arith
-some_width ImageOff32 = omega arith
-
 pub chained_no : (is : List Img) → IsAccepted is → AllApart (set_edits is) → (x : SetWord) → IsIn (set_words is) x → (IsChained x → ⊥) → is_chained_at is (edit_at is x).at ≡ false
 chained_no is accepted apart x there free = elim (cases_Bool (is_chained_at is (edit_at is x).at)) [
   | inl some ↦
@@ -118,8 +107,8 @@ chained_no is accepted apart x there free = elim (cases_Bool (is_chained_at is (
       let low : (layout_of is).writable.at ≤ (edit_at is own.word).at = pointer_in_data is accepted own.word own.there own.chained.pointer in
       let at : (edit_at is x).at ≡ (layout_of is).writable.at + found.0 = eqb-true (edit_at is x).at ((layout_of is).writable.at + found.0) found.1.1 in
       let place : found.0 ≡ (edit_at is own.word).at - (layout_of is).writable.at = own.at in
-      let here : IsByteOf (edit_at is x).at (edit_at is x) = let some_x = some_width x.word.kind in (omega arith, omega (arith, some_x)) in
-      let there_too : IsByteOf (edit_at is x).at (edit_at is own.word) = let some_y = some_width own.word.word.kind in (omega (arith, at, place, low), omega (arith, at, place, low, some_y)) in
+      let here : IsByteOf (edit_at is x).at (edit_at is x) = let some_x = width_some x.word.kind in (omega arith, omega (arith, some_x)) in
+      let there_too : IsByteOf (edit_at is x).at (edit_at is own.word) = let some_y = width_some own.word.word.kind in (omega (arith, at, place, low), omega (arith, at, place, low, some_y)) in
       let same : x ≡ own.word = one_word is x own.word (edit_at is x).at apart there own.there here there_too in
       absurd (free (subst IsChained (sym same) own.chained))
   | inr none ↦ none

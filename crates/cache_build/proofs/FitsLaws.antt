@@ -1,84 +1,19 @@
 -- Sound images with a layout make a cache.
-use Rattle.std.proofs.Common.{◌≡◌, ◌≤◌, ◌<◌, ℕ, ◌+◌, Bool, true, false, not, ◌&&◌, ◌||◌, cond, if◌then◌else◌, nat_le, nat_lt, Option, Some, None, option_map, List, [], ◌∷◌, length, get_or, refl, sym, ap, ◌∙◌, arith}
-use Rattle.std.specs.Prelude.{find}
-use Rattle.std.specs.List.{list_any}
+use Rattle.std.proofs.Common.{◌≡◌, ◌≤◌, ◌<◌, ℕ, ◌+◌, false, None, List, [], ◌∷◌, length, get_or, refl, sym, arith}
 use Rattle.std.proofs.lemmas.List.{get_or_default}
 use Rattle.std.proofs.lemmas.Option.{slice_get_within, get_or_from_slice_get}
-use Rattle.dsc_base.specs.Numbers.{number_at}
-use Rattle.dsc_base.specs.declared.rule.Rule.TheVariants.{NoInstallName}
-use Rattle.macho_image.specs.Records.{Seg, Img, Load}
-use Rattle.macho_image.specs.Macho.{commands_of, loads_of, pieces_of, number_of, command_where, install_name_of, is_install_name, is_dylib, dylib_name}
-use Rattle.macho_image.specs.Rules.{is_plain_name, is_linkedit_segment, breaks_name_text, breaks_no_install_name}
-use Rattle.macho_image.specs.Breaks.{header_break, command_break, IsSound}
-use Rattle.macho_image.proofs.Images.{pieces_of-loads_from}
-use Rattle.macho_image.proofs.Unbroken.{or_none, broken_none}
-use Rattle.dsc_base.specs.Texts.{is_plain_text}
+use Rattle.macho_image.specs.Records.{Seg, Img}
+use Rattle.macho_image.specs.Rules.{is_linkedit_segment}
+use Rattle.macho_image.specs.Breaks.{IsSound}
 use Rattle.cache_layout.specs.Layouts.{layout_of, layout_break}
 use Rattle.cache_layout.specs.Apart.{IsSegment, move_at}
-use Rattle.cache_layout.proofs.SoundLaws.{sound_rules, both, sound_linkedit}
+use Rattle.cache_layout.proofs.SoundLaws.{sound_linkedit, sound_path}
 use Rattle.cache_layout.proofs.SpaceLaws.{sound_space}
 use Rattle.cache_layout.proofs.RoomLaws.{paged-covers}
 use Rattle.cache_layout.proofs.PlaceLaws.{are_within}
 use Rattle.ref_rewrite.proofs.HomeLaws.{header_fits, two_segments}
 use Rattle.cache_build.specs.Head.{text_size}
 use Rattle.cache_build.specs.Fits.{HasRoom, Fits}
-
--- ---- the path
-
-found_none : (b : Bool) (l : Load) (o : Option Load) → option_map (λ (k : Load). k.at) (cond b (Some l) o) ≡ None → (b ≡ false) × (option_map (λ (k : Load). k.at) o ≡ None)
-found_none true l o e = absurd (cc)
-found_none false l o e = (refl, e)
-
-plain_of : (a b p : Bool) → ((a || b) && not p) ≡ false → a ≡ true → p ≡ true
-plain_of true b true e is = refl
-plain_of true b false e is = absurd (cc)
-plain_of false b p e is = absurd (cc)
-
-and_true : (a b : Bool) → a ≡ true → b ≡ true → (a && b) ≡ true
-and_true true b is other = other
-and_true false b is other = absurd (cc)
-
-plain_path : (c : List ℕ) → is_plain_name c ≡ true → is_plain_text (dylib_name c) ≡ true
-plain_path c plain =
-    let one = both (nat_le 24 (number_at 4 c 8)) _ plain in
-    let two = both (nat_lt (number_at 4 c 8 + length (dylib_name c)) (length c)) _ one.1 in
-    two.1
-
-name_found : (b : Bool) (c : List ℕ) (o : Option (List ℕ)) → (b ≡ true → is_plain_text (dylib_name c) ≡ true) → (b ≡ false → is_plain_text (install_name_of o) ≡ true) → is_plain_text (install_name_of (cond b (Some c) o)) ≡ true
-name_found true c o here later = here refl
-name_found false c o here later = later refl
-
-rest_has : (a b : Bool) → (a || b) ≡ true → a ≡ false → b ≡ true
-rest_has true b has isnt = absurd (cc)
-rest_has false b has isnt = has
-
-names_plain : (ls : List Load) → breaks_name_text ls ≡ None → list_any (λ (l : Load). is_install_name (number_of l.bytes)) ls ≡ true → is_plain_text (install_name_of (command_where is_install_name (pieces_of ls))) ≡ true
-names_plain [] none some = absurd (cc)
-names_plain (l ∷ ls) none some =
-    let parts = found_none (is_dylib (number_of l.bytes) && not (is_plain_name l.bytes)) l (find (λ (k : Load). is_dylib (number_of k.bytes) && not (is_plain_name k.bytes)) ls) none in
-    name_found (is_install_name (number_of l.bytes)) l.bytes (command_where is_install_name (pieces_of ls))
-    (λ is. plain_path l.bytes (plain_of (is_install_name (number_of l.bytes)) _ (is_plain_name l.bytes) parts.0 is))
-    (λ isnt. names_plain ls parts.1 (rest_has (is_install_name (number_of l.bytes)) (list_any (λ (k : Load). is_install_name (number_of k.bytes)) ls) some isnt))
-
-has_name : (ls : List Load) → breaks_no_install_name ls ≡ None → list_any (λ (l : Load). is_install_name (number_of l.bytes)) ls ≡ true
-has_name ls none = yes (list_any (λ (l : Load). is_install_name (number_of l.bytes)) ls) none
-  where
-    yes : (b : Bool) → if◌then◌else◌ {A = Option ℕ} b None (Some 0) ≡ None → b ≡ true
-    yes true e = refl
-    yes false e = absurd (cc)
-
-command_rules : (ls : List Load) → command_break ls ≡ None → breaks_no_install_name ls ≡ None
-unfolding command_break
-command_rules ls none = broken_none NoInstallName _ (or_none _ _ (or_none _ _ (or_none _ _ none).1).1).0
-
-sound_install : (image : Img) → IsSound image → breaks_no_install_name (loads_of image.header) ≡ None
-unfolding header_break
-sound_install image sound = command_rules (loads_of image.header) (or_none _ _ (or_none _ _ sound.unbroken).1).0
-
-pub sound_path : (image : Img) → IsSound image → is_plain_text image.install_name ≡ true
-sound_path image sound =
-    ap is_plain_text (sound.install_name ∙ ap (λ (cs : List (List ℕ)). install_name_of (command_where is_install_name cs)) (sym (pieces_of-loads_from 32 (commands_of image.header))))
-    ∙ names_plain (loads_of image.header) (sound_rules image sound).names (has_name (loads_of image.header) (sound_install image sound))
 
 -- ---- the header in the text segment
 

@@ -1,18 +1,13 @@
 -- Once pointers are set in data, the bits of the distance are free in each word that is chained; so accepted images can be built.
-use Rattle.std.proofs.Common.{◌≡◌, ◌≤◌, ℕ, ◌-◌, ◌*◌, ◌/◌, ◌%◌, ◌^◌, None, List, [], ◌∷◌, length, sym, ap, ◌∙◌, subst, arith}
-use Rattle.std.specs.Prelude.{bit_and}
-use Rattle.std.proofs.Math.Nat.{zero-mod}
-use Rattle.std.proofs.lemmas.Nat.Bits.{and_high}
+use Rattle.std.proofs.Common.{◌≡◌, ◌≤◌, ℕ, ◌-◌, ◌*◌, ◌^◌, None, List, length, sym, subst}
 use Rattle.dsc_base.specs.declared.edits.Edit.{Edit}
-use Rattle.dsc_base.specs.Edits.{put_all, AllInside, AllApart, AllFit}
+use Rattle.dsc_base.specs.Edits.{put_all, AllInside}
 use Rattle.macho_image.specs.Records.{Img}
 use Rattle.cache_layout.specs.declared.mapping.Mapping.TheVariants.{Writable}
 use Rattle.cache_layout.specs.Layouts.{layout_of}
 use Rattle.cache_layout.specs.Parts.{mapping_part}
 use Rattle.slide_chain.specs.Making.{AreOutside}
-use Rattle.slide_chain.specs.Linked.{HasPointer, HavePointers}
-use Rattle.slide_chain.proofs.LinkedLaws.{pointer-number}
-use Rattle.slide_chain.proofs.WordLaws.{made_ones}
+use Rattle.slide_chain.proofs.LinkedLaws.{set-outside}
 use Rattle.prebind.specs.Sets.{image_set}
 use Rattle.ref_rewrite.specs.Breaks.{rewrite_break}
 use Rattle.ref_rewrite.specs.Pages.{all_pages}
@@ -24,25 +19,12 @@ use Rattle.cache_build.proofs.BuildableSets.{IsAccepted, set_edits, set_chained,
 use Rattle.cache_build.proofs.CacheFacts.{HasEdits}
 use Rattle.cache_build.proofs.SizedPages.{data_long}
 
-zero_shifted : (n : ℕ) → 0 % 2 ^ n * 2 ^ 48 ≡ 0
-zero_shifted n = ap (λ (k : ℕ). k * 2 ^ 48) (zero-mod (2 ^ n))
-
-free_bits : (bits : ℕ) (es : List Edit) (bytes ws : List ℕ) → AllInside (length bytes) es → AllApart es → AllFit es → HavePointers es ws → AreOutside ((2 ^ bits - 1) * 2 ^ 48) (put_all es bytes) ws
-free_bits bits es bytes [] inside apart fit pointers = tt
-free_bits bits es bytes (a ∷ ws) inside apart fit pointers =
-    let p : HasPointer es a = pointers.0 in
-    let high : bit_and p.edit.value ((2 ^ bits - 1) * 2 ^ 48) ≡ p.edit.value / 2 ^ 48 % 2 ^ bits * 2 ^ 48 = ap (bit_and p.edit.value) (made_ones bits) ∙ and_high p.edit.value bits 48 in
-    let none : p.edit.value / 2 ^ 48 ≡ 0 = omega (arith, p.small) in (
-      ap (λ (v : ℕ). bit_and v ((2 ^ bits - 1) * 2 ^ 48)) (pointer-number es bytes a inside apart fit p) ∙ (high ∙ ap (λ (q : ℕ). q % 2 ^ bits * 2 ^ 48) none ∙ zero_shifted bits),
-      free_bits bits es bytes ws inside apart fit pointers.1,
-    )
-
 set_free : (bits : ℕ) (is : List Img) (headers : List (List ℕ)) → IsAccepted is → HasEdits bits is → AreSized headers is
     → AreOutside ((2 ^ bits - 1) * 2 ^ 48) (put_all (edits_in (layout_of is).writable (set_edits is)) (mapping_part Writable (all_pages headers is) is)) (set_chained is)
 set_free bits is headers accepted has sized =
     let es : List Edit = edits_in (layout_of is).writable (set_edits is) in
     let bytes : List ℕ = mapping_part Writable (all_pages headers is) is in
-    free_bits bits es bytes (set_chained is) (subst (λ (n : ℕ). AllInside n es) (sym (data_long headers is accepted.sound sized)) has.linked.inside) has.linked.apart has.linked.fit has.linked.pointers
+    set-outside bits es bytes (set_chained is) (subst (λ (n : ℕ). AllInside n es) (sym (data_long headers is accepted.sound sized)) has.linked.inside) has.linked.apart has.linked.fit has.linked.pointers
 
 pub can_build : (bits : ℕ) (is : List Img) → 1 ≤ bits → bits ≤ 16 → IsAccepted is → (rewrite_break (layout_of is) (image_set is) ≡ None → HasEdits bits is)
     → (merge_break (layout_of is) (length (set_slide bits is)) (set_shares is) ≡ None → CanMoveEach (layout_of is) (set_spots bits is) is) → CanBuild bits (layout_of is) (image_set is)

@@ -19,13 +19,14 @@ use Rattle.prebind.specs.Sets.{ImageSet}
 use Rattle.ref_rewrite.specs.Breaks.{rewrite_break}
 use Rattle.ref_rewrite.specs.Following.{FollowIn}
 use Rattle.ref_rewrite.specs.Plans.{Plan}
-use Rattle.ref_rewrite.specs.Planned.{IsLayout, AreAllPlaced, plans_of}
+use Rattle.ref_rewrite.specs.Planned.{IsLayout, plans_of}
 use Rattle.linkedit_merge.specs.Shares.{shares_of}
 use Rattle.linkedit_merge.specs.Linkedit.{merge_break}
 use Rattle.cache_build.specs.Edits.{chained_of}
 use Rattle.cache_build.specs.Places.{slide_bytes, shares_in}
 use Rattle.cache_build.specs.Breaks.{behind_layout}
 use Rattle.cache_build.proofs.WholeCaches.{chained_are}
+use Rattle.prebind.specs.Placed.{AreListsPlaced}
 
 -- ---- the words
 
@@ -51,7 +52,7 @@ pub words_below : (plans passed : List Plan) (n m : ℕ) (words given : List ℕ
 words_below plans passed n m words given follow same are own size =
     subst (λ (k : ℕ). AllBelow k given) (sym size) (subst (λ (ws : List ℕ). AllBelow n ws) (sym (own ∙ (are ∙ ap words_in same))) (below 0 n (words_in plans) follow))
 
-pub words_chained : (l : Laid) (set : ImageSet) (placed : List (List PlacedWord)) (plans passed : List Plan) (words : List ℕ) → AreAllPlaced set placed → plans ≡ plans_of l set placed → passed ≡ plans → words ≡ words_in passed → words ≡ chained_of l set
+pub words_chained : (l : Laid) (set : ImageSet) (placed : List (List PlacedWord)) (plans passed : List Plan) (words : List ℕ) → AreListsPlaced set placed → plans ≡ plans_of l set placed → passed ≡ plans → words ≡ words_in passed → words ≡ chained_of l set
 words_chained l set placed plans passed words placed_all made same are = are ∙ (ap words_in (same ∙ made) ∙ chained_are l set placed placed_all)
 
 -- ---- the layout

@@ -1,9 +1,7 @@
 -- Where slide information and linkedit of a set end that breaks no rule: each has room, and the whole has 512 MiB at most.
-use Rattle.std.proofs.Common.{◌≡◌, ◌≤◌, ℕ, ◌+◌, Bool, true, false, if◌then◌else◌, nat_lt, Some, None, List, [], length, refl, sym, ap, ◌∙◌, subst, arith}
-use Rattle.std.proofs.lemmas.Bool.{ltb-false}
+use Rattle.std.proofs.Common.{◌≡◌, ◌≤◌, ℕ, ◌+◌, None, List, length, sym, ap, ◌∙◌, subst, arith}
 use Rattle.dsc_base.specs.Limits.{span_limit}
 use Rattle.dsc_base.specs.Region.{paged}
-use Rattle.dsc_base.specs.declared.fault.Break.{Break}
 use Rattle.macho_image.specs.Records.{Img}
 use Rattle.nlist_table.specs.Symbols.{Tabs}
 use Rattle.cache_header.specs.Spelling.{head_bytes}
@@ -16,8 +14,7 @@ use Rattle.prebind.specs.declared.resolved.PlacedWord.{PlacedWord}
 use Rattle.prebind.specs.Sets.{ImageSet}
 use Rattle.ref_rewrite.specs.Planned.{IsLayout, plan_in, plans_of}
 use Rattle.linkedit_merge.specs.Shares.{Share, shares_of}
-use Rattle.linkedit_merge.specs.Linkedit.{parts_of, linkedit_of, linkedit_size, linkedit_start, merge_break, spots_in, spots_of}
-use Rattle.linkedit_merge.proofs.PartLaws.{length-joined}
+use Rattle.linkedit_merge.specs.Linkedit.{linkedit_of, linkedit_size, linkedit_start, merge_break, spots_in, spots_of}
 use Rattle.linkedit_merge.proofs.ShareLaws.{many_shares}
 use Rattle.cache_build.specs.declared.frame.Frame.{Frame}
 use Rattle.cache_build.specs.Filling.{HasRooms, IsPrepared}
@@ -25,6 +22,7 @@ use Rattle.cache_build.specs.Head.{head_of}
 use Rattle.cache_build.specs.Places.{frame_of}
 use Rattle.cache_build.proofs.GatherLaws.{in_turn}
 use Rattle.cache_build.proofs.HeadRooms.{CanTell, IsLowFrame, head_room}
+use Rattle.linkedit_merge.proofs.MergeLaws.{length-linkedit_of, unbroken_fits}
 
 -- ---- how many there are of each
 
@@ -41,23 +39,10 @@ many_moves l images layout = ap (λ (m : Laid). length m.moves) layout.is ∙ le
 
 -- ---- the linkedit
 
-pub length_linkedit : (shares : List Share) → length (linkedit_of shares) ≡ linkedit_size shares
-unfolding linkedit_of linkedit_size
-length_linkedit shares = length-joined [] (parts_of shares)
-
-pub within_limit : (l : Laid) (slide : ℕ) (shares : List Share) → merge_break l slide shares ≡ None → linkedit_start l slide + paged (linkedit_size shares) ≤ span_limit
-unfolding merge_break
-within_limit l slide shares none =
-    ltb-false span_limit (linkedit_start l slide + paged (linkedit_size shares)) (not_over (nat_lt span_limit (linkedit_start l slide + paged (linkedit_size shares))) _ none)
-  where
-    not_over : (b : Bool) (x : Break) → (if b then Some x else None) ≡ None → b ≡ false
-    not_over true x e = absurd (cc)
-    not_over false x e = refl
-
 pub linkedit_low : (l : Laid) (slide : ℕ) (shares : List Share) (linkedit : List ℕ) → merge_break l slide shares ≡ None → linkedit ≡ linkedit_of shares → length linkedit ≤ 0x20000000
 linkedit_low l slide shares linkedit none is =
-    let long : length linkedit ≡ linkedit_size shares = ap (λ (b : List ℕ). length b) is ∙ length_linkedit shares in
-    omega (arith, long, within_limit l slide shares none, paged-covers (linkedit_size shares))
+    let long : length linkedit ≡ linkedit_size shares = ap (λ (b : List ℕ). length b) is ∙ length-linkedit_of shares in
+    omega (arith, long, unbroken_fits l slide shares none, paged-covers (linkedit_size shares))
 
 starts_behind : (l : Laid) (slide : ℕ) → l.fixed.at + l.fixed.len + slide ≤ linkedit_start l slide
 unfolding linkedit_start
@@ -79,7 +64,7 @@ is_framed l is slide shares linkedit frame size layout bytes fits long framed = 
   layout = layout;
   bytes = bytes;
   fits = fits;
-  framed = framed shares (long ∙ (ap (λ (b : List ℕ). length b) bytes ∙ length_linkedit shares));
+  framed = framed shares (long ∙ (ap (λ (b : List ℕ). length b) bytes ∙ length-linkedit_of shares));
 }
 
 record Stands (l : Laid) (slide : ℕ) (shares : List Share) (frame : Frame) : Type 0 where
@@ -98,7 +83,7 @@ stands l slide shares frame is = record {
 }
 
 pub span_low : (l : Laid) (is : List Img) (slide : ℕ) (shares : List Share) (linkedit : List ℕ) (frame : Frame) → IsFramed l is slide shares linkedit frame → frame.span ≤ 0x20000000
-span_low l is slide shares linkedit frame f = omega (arith, (stands l slide shares frame f.framed).span, within_limit l slide shares f.fits)
+span_low l is slide shares linkedit frame f = omega (arith, (stands l slide shares frame f.framed).span, unbroken_fits l slide shares f.fits)
 
 pub data_within : (l : Laid) (is : List Img) (slide : ℕ) (shares : List Share) (linkedit : List ℕ) (frame : Frame) → IsFramed l is slide shares linkedit frame → l.writable.at + l.writable.len ≤ frame.span
 data_within l is slide shares linkedit frame f =
@@ -111,7 +96,7 @@ front_room : (l : Laid) (is : List Img) (slide : ℕ) (shares : List Share) (lin
 front_room l is slide shares linkedit head frame f tell told =
     let own = stands l slide shares frame f.framed in
     let turn : AreInTurn is l = in_turn l is f.layout in
-    let limit : linkedit_start l slide + paged (linkedit_size shares) ≤ span_limit = within_limit l slide shares f.fits in
+    let limit : linkedit_start l slide + paged (linkedit_size shares) ≤ span_limit = unbroken_fits l slide shares f.fits in
     let same : layout_of is ≡ l = sym f.layout.is in
     let low : IsLowFrame is frame = record {
       slide_at = omega (arith, own.slide_at, turn.span);
@@ -127,7 +112,7 @@ pub have_rooms : (l : Laid) (is : List Img) (slide : ℕ) (shares : List Share) 
 have_rooms l is slide shares linkedit head slide_info frame f tell told long =
     let own = stands l slide shares frame f.framed in
     let turn : AreInTurn is l = in_turn l is f.layout in
-    let size : length linkedit ≡ linkedit_size shares = ap (λ (b : List ℕ). length b) f.bytes ∙ length_linkedit shares in
+    let size : length linkedit ≡ linkedit_size shares = ap (λ (b : List ℕ). length b) f.bytes ∙ length-linkedit_of shares in
     record {
       front = front_room l is slide shares linkedit head frame f tell told;
       segments = omega (arith, own.slide_at, turn.writable, turn.fixed);

@@ -15,7 +15,7 @@ use Rattle.slide_chain.specs.Making.{info_of}
 use Rattle.prebind.specs.declared.resolved.PlacedWord.{PlacedWord}
 use Rattle.prebind.specs.Sets.{ImageSet}
 use Rattle.ref_rewrite.specs.Pages.{all_pages, part_of, all_edits}
-use Rattle.ref_rewrite.specs.Planned.{AreAllPlaced, plans_of, with_headers}
+use Rattle.ref_rewrite.specs.Planned.{plans_of, with_headers}
 use Rattle.ref_rewrite.specs.Plans.{Plan}
 use Rattle.ref_rewrite.specs.Rewritten.{edits_in, joined}
 use Rattle.linkedit_merge.specs.Shares.{Share, shares_of}
@@ -26,10 +26,11 @@ use Rattle.cache_build.specs.Head.{head_of}
 use Rattle.cache_build.specs.Places.{shares_in, frame_of}
 use Rattle.cache_build.proofs.GatherLaws.{words_chained}
 use Rattle.cache_build.proofs.WholeCaches.{IsGathered, edits_are}
+use Rattle.prebind.specs.Placed.{AreListsPlaced}
 
 -- what each step says, where it is handed what the steps before it gave
 pub record AreTaken (bits : ℕ) (l : Laid) (set : ImageSet) (tables : List Tabs) (placed : List (List PlacedWord)) (plans passed : List Plan) (words given : List ℕ) (size : ℕ) (info : Slide) (slide_info : List ℕ) (slide : ℕ) (linkedit : List ℕ) (spots : List LinkSpots) (frame : Frame) (head : List ℕ) : Type 0 where
-  pub placed_all : AreAllPlaced set placed
+  pub placed_all : AreListsPlaced set placed
   pub tables_are : tables ≡ map tables_of set.images
   pub planned : plans ≡ plans_of l set placed
   pub plans_passed : passed ≡ plans

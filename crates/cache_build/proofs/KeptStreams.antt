@@ -1,30 +1,24 @@
 -- Each image of a set that can be built has in its cache the bind streams of its file, and they break no rule there.
-use Rattle.std.proofs.Common.{◌≡◌, ◌<◌, ℕ, ◌+◌, ◌*◌, ◌%◌, false, Option, Some, None, List, [], take, drop, length, map, get_or, refl, sym, ap, ap₂, ◌∙◌, subst, arith}
+use Rattle.std.proofs.Common.{◌≡◌, ◌<◌, ℕ, ◌+◌, ◌*◌, ◌%◌, false, Option, Some, None, List, [], take, drop, length, map, get_or, refl, sym, ap, ◌∙◌, arith}
 use Rattle.std.specs.Prelude.{slice_get}
 use Rattle.std.proofs.lemmas.Option.{slice_get_read, slice_get_within, get_or_from_slice_get}
-use Rattle.dsc_base.specs.declared.fault.Site.{Site}
 use Rattle.dsc_base.specs.declared.fault.Span.{Span}
 use Rattle.macho_image.specs.Records.{Seg, StreamBytes, Img}
-use Rattle.macho_image.specs.Breaks.{IsSound}
 use Rattle.macho_image.specs.Format.{dyld_info_bind_off, dyld_info_bind_size, dyld_info_lazy_bind_off, dyld_info_lazy_bind_size}
 use Rattle.macho_image.specs.Macho.{commands_of, command_where, is_dyld_info, part_in, streams_of}
-use Rattle.macho_image.specs.Order.{addresses_of, in_address_order, first_close}
+use Rattle.macho_image.specs.Order.{addresses_of}
 use Rattle.macho_image.specs.Rules.{is_linkedit_segment}
-use Rattle.macho_image.specs.Streams.{opcodes_in, records, reading_break}
 use Rattle.macho_image.specs.declared.place.Moved.{Moved}
 use Rattle.macho_image.proofs.SoundSegments.{segments_keep_apart}
 use Rattle.macho_edit.specs.MovedImage.{named_by, moved_image}
 use Rattle.macho_edit.specs.declared.spots.LinkSpots.{LinkSpots}
 use Rattle.bind_ops.specs.Binds.{binds_of, places_of, bind_break}
-use Rattle.bind_ops.specs.Clash.{clashing, clash_break}
-use Rattle.bind_ops.specs.Records.{BoundWord}
-use Rattle.bind_ops.specs.declared.kind.StreamKind.{StreamKind}
+use Rattle.bind_ops.specs.Clash.{clash_break}
 use Rattle.bind_ops.specs.declared.kind.StreamKind.TheVariants.{Bind, Lazy}
 use Rattle.bind_ops.proofs.BindLaws.{accepted_binds}
 use Rattle.nlist_table.specs.Symbols.{tables_of}
-use Rattle.prebind.specs.Sets.{streams_break, lists_of}
+use Rattle.prebind.specs.Sets.{lists_of}
 use Rattle.prebind.proofs.SetLaws.{streams_of_image}
-use Rattle.rebase_ops.specs.Rebases.{rebases_of}
 use Rattle.cache_layout.specs.Layouts.{layout_of}
 use Rattle.cache_layout.specs.Apart.{IsSegment, move_at}
 use Rattle.linkedit_merge.specs.Linkedit.{parts_of, linkedit_of, spots_in}

@@ -1,13 +1,11 @@
 -- The tables of an image of a set that can be built are read in its cache, and break no rule there.
-use Rattle.std.proofs.Common.{◌≡◌, ◌≤◌, ◌<◌, ℕ, ◌+◌, ◌*◌, ◌^◌, Bool, true, false, Option, Some, None, List, [], ◌∷◌, take, drop, length, map, filter, get_or, All, refl, sym, ap, ap₂, ◌∙◌, subst, arith, inl, inr, if◌then◌else◌}
-use Rattle.std.specs.Prelude.{slice_get, slice_index}
+use Rattle.std.proofs.Common.{◌≡◌, ◌≤◌, ◌<◌, ℕ, ◌+◌, ◌*◌, ◌^◌, Bool, true, false, Option, Some, None, List, [], ◌∷◌, take, drop, length, map, filter, get_or, All, refl, sym, ap, ◌∙◌, subst, arith, inl, inr, if◌then◌else◌}
 use Rattle.std.proofs.lemmas.Bool.{cases_Bool, cond-true, cond-false}
 use Rattle.std.proofs.lemmas.List.{length-map}
 use Rattle.std.proofs.lemmas.List.Elements.{All-nil, All-cons, All-take, All-drop}
 use Rattle.std.proofs.lemmas.Option.{slice_get_read}
 use Rattle.dsc_base.specs.Limits.{span_limit}
-use Rattle.dsc_base.specs.Numbers.{number_at, little_bytes}
-use Rattle.dsc_base.specs.declared.fault.Span.{Span}
+use Rattle.dsc_base.specs.Numbers.{number_at}
 use Rattle.dsc_base.proofs.NumberLaws.{number_at-lt}
 use Rattle.macho_image.specs.Records.{StreamBytes, Img}
 use Rattle.macho_image.specs.Format.{symtab_symoff, symtab_nsyms, dysymtab_indirectsymoff, dysymtab_nindirectsyms}
@@ -22,21 +20,20 @@ use Rattle.nlist_table.specs.Symbols.{Sym, Tabs, symbol_of, renumbered, kept_bef
 use Rattle.nlist_table.proofs.CountLaws.{kept_before-le}
 use Rattle.nlist_table.proofs.KeptLaws.{image_tables}
 use Rattle.nlist_table.proofs.PieceLaws.{indirect_back}
-use Rattle.cache_layout.specs.Layouts.{layout_of}
 use Rattle.cache_layout.proofs.RoomLaws.{paged-covers}
 use Rattle.linkedit_merge.specs.Indices.{pool_len}
-use Rattle.linkedit_merge.specs.Linkedit.{linkedit_of, linkedit_size, pool_of, parts_of, spots_in}
-use Rattle.linkedit_merge.specs.Parts.{bytes_in, lens_of, span_of}
+use Rattle.linkedit_merge.specs.Linkedit.{linkedit_of, linkedit_size, pool_of, spots_in}
+use Rattle.linkedit_merge.specs.Parts.{bytes_in}
 use Rattle.linkedit_merge.specs.ReadBack.{FitsSymbol, HasFields}
 use Rattle.linkedit_merge.specs.Shares.{Share, moved_symbol, share_of}
-use Rattle.linkedit_merge.proofs.ReadLaws.{moved_are_tables, moved_have_fields, pieces_found, shared_range}
+use Rattle.linkedit_merge.proofs.ReadLaws.{moved_have_fields, pieces_found, shared_range}
 use Rattle.linkedit_merge.proofs.SoundTables.{tables_keep, none_keep}
 use Rattle.linkedit_merge.proofs.SpanLaws.{spots_within}
 use Rattle.cache_build.proofs.BuildableSets.{IsReadOf, IsBuildable, set_shares, set_start, slid_of}
 use Rattle.cache_build.proofs.ByteLaws.{read_byte}
 use Rattle.cache_build.proofs.CacheFacts.{IsCache, moved_in}
 use Rattle.cache_build.proofs.MovedExports.{spotted_bytes}
-use Rattle.cache_build.proofs.MovedSpots.{own_moves, own_share, own_spots, share_in, share_is, spots_are, span_low}
+use Rattle.cache_build.proofs.MovedSpots.{own_moves, own_share, own_spots, share_in, share_is, spots_are, span_low, share_tables}
 
 -- ---- the numbers of tables that are read have the widths of their fields
 
@@ -106,9 +103,6 @@ own_fields_fit i read =
 
 -- ---- with the commands that name them, and without
 
-no_groups : List ℕ
-no_groups = 0 ∷ 0 ∷ 0 ∷ 0 ∷ 0 ∷ 0 ∷ []
-
 ungrouped : (n : ℕ) (ss : List Sym) → All (IsSymbol n) ss → AreTables n (record { symbols = ss; indirect = []; groups = 0 ∷ 0 ∷ 0 ∷ 0 ∷ 0 ∷ 0 ∷ [] })
 ungrouped n ss all = record { symbols = all; indirect = λ k d lt flag. absurd (omega (arith, lt)); groups = (omega arith, omega arith, omega arith) }
 
@@ -135,10 +129,6 @@ moved_tables_in i moves spots b = refl
 many_sections : (i : Img) (moves : List Moved) (spots : LinkSpots) (b : List ℕ) → length (moved_image i moves spots b).sections ≡ length i.sections
 unfolding moved_image
 many_sections i moves spots b = length-map i.sections _
-
-share_tables : (i : Img) (m : List Moved) → AreTables (length i.sections) (tables_of i) → AreTables (length i.sections) (share_of i (tables_of i) m).tables
-unfolding share_of
-share_tables i m are = moved_are_tables (length i.sections) i m (tables_of i) are
 
 share_fields : (i : Img) (m : List Moved) → HasFields (tables_of i) → HasFields (share_of i (tables_of i) m).tables
 unfolding share_of

@@ -29,9 +29,6 @@ use Rattle.cache_build.proofs.Memberships.{in_enumerated}
 pointer_raised : (value start distance slide : ℕ) → value ≡ wrap (start + distance) → wrap (value + slide) ≡ wrap (wrap (start + slide) + distance)
 pointer_raised value start distance slide is = omega (arith, is)
 
-led_raised : (led start distance slide : ℕ) → led ≡ wrap (start + distance) → wrap (led + slide) ≡ wrap (wrap (start + slide) + distance)
-led_raised led start distance slide is = omega (arith, is)
-
 -- a pointer to a place, whose number is raised
 pub pointer_slid : (starts slid : Starts) (location header slide value k g distance : ℕ) → LeadsTo starts location header Pointer64 value (Place k g distance) → slid k g ≡ wrap (starts k g + slide)
     → LeadsTo slid (wrap (location + slide)) (wrap (header + slide)) Pointer64 (wrap (value + slide)) (Place k g distance)
@@ -44,7 +41,7 @@ pub reference_slid : (starts slid : Starts) (location header slide value k g dis
     → LeadsTo slid (wrap (location + slide)) (wrap (header + slide)) kind value (Place k g distance)
 reference_slid starts slid location header slide value k g distance kind other leads moved =
     kind_leads kind location header value slide other
-    ∙ (led_raised (led_to kind location header value) (starts k g) distance slide leads ∙ ap (λ (n : ℕ). wrap (n + distance)) (sym moved))
+    ∙ (pointer_raised (led_to kind location header value) (starts k g) distance slide leads ∙ ap (λ (n : ℕ). wrap (n + distance)) (sym moved))
 
 -- ---- what rules 151 and 152 say
 

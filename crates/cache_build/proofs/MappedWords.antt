@@ -1,5 +1,5 @@
 -- Each word of a set leads to its target once the cache is mapped.
-use Rattle.std.proofs.Common.{◌≡◌, ◌≤◌, ◌<◌, ℕ, suc, ◌+◌, ◌-◌, ◌*◌, ◌%◌, ◌^◌, true, false, Option, Some, None, List, [], ◌∷◌, length, get_or, refl, sym, ap, ◌∙◌, subst, arith, inl, inr}
+use Rattle.std.proofs.Common.{◌≡◌, ◌≤◌, ◌<◌, ℕ, ◌+◌, ◌-◌, ◌*◌, ◌%◌, ◌^◌, true, false, Option, Some, None, List, [], ◌∷◌, length, get_or, refl, sym, ap, ◌∙◌, subst, arith, inl, inr}
 use Rattle.std.specs.Prelude.{slice_get, slice_index_or, find}
 use Rattle.std.proofs.lemmas.Bool.{cond-true, cond-false}
 use Rattle.std.proofs.lemmas.Option.{same_Some, slice_get_within, get_or_from_slice_get, slice_get-get_or}
@@ -56,6 +56,7 @@ use Rattle.cache_build.proofs.ChainedWords.{IsChained, is_chained_at, chained_ye
 use Rattle.cache_build.proofs.LedWords.{pointer_slid, reference_slid, reference_can, pointer_can}
 use Rattle.cache_build.proofs.TargetPlaces.{IsOwn, LeadsToOwn, word_own}
 use Rattle.cache_build.proofs.AcceptedSets.{exports_inside}
+use Rattle.macho_edit.proofs.PlaceLaws.{length-places_of}
 
 -- each image is read of the cache as the moved one
 abbrev pub AreCached : ℕ → List Img → Type 0
@@ -105,16 +106,10 @@ seated_first b [] (t ∷ ss) s long got named = absurd (omega arith)
 seated_first b (p ∷ ps) [] s long got named = absurd (cc)
 seated_first b (p ∷ ps) (t ∷ ss) s long got named = (seated b p t, refl, ap is_text_segment (same_Some t s got) ∙ named)
 
-length-places : (spots : LinkSpots) (moves : List Moved) (ss : List Seg) → length moves ≡ length ss → length (places_of spots moves ss) ≡ length ss
-length-places spots [] [] long = refl
-length-places spots [] (s ∷ ss) long = absurd (omega arith)
-length-places spots (m ∷ ms) [] long = absurd (omega arith)
-length-places spots (m ∷ ms) (s ∷ ss) long = ap suc (length-places spots ms ss (omega arith))
-
 moved_first : (i : Img) (moves : List Moved) (spots : LinkSpots) (b : List ℕ) (s : Seg) → length moves ≡ length i.segments → slice_get i.segments 0 ≡ Some s → is_text_segment s ≡ true
     → (t : Seg) × (slice_get (moved_image i moves spots b).segments 0 ≡ Some t) × (is_text_segment t ≡ true)
 unfolding moved_image
-moved_first i moves spots b s long got named = seated_first b (places_of spots moves i.segments) i.segments s (length-places spots moves i.segments long) got named
+moved_first i moves spots b s long got named = seated_first b (places_of spots moves i.segments) i.segments s (length-places_of spots moves i.segments long) got named
 
 -- the header of the moved image is where the first segment goes
 pub header_moved : (bits : ℕ) (is : List Img) (k : ℕ) (i : Img) → k < length is → i ≡ get_or is k i → IsSound i

@@ -1,7 +1,7 @@
 -- The bind streams of an image, read of the image with its segments elsewhere: the same words are bound to the same symbols, where their segments go.
-use Rattle.std.proofs.Common.{◌≡◌, ◌<◌, ◌+◌, ℕ, zero, suc, Bool, ◌||◌, true, false, List, [], ◌∷◌, ◌++◌, length, map, filter, get_or, refl, sym, ap, ap₂, ◌∙◌, subst, arith, if◌then◌else◌, Option, Some, None}
+use Rattle.std.proofs.Common.{◌≡◌, ◌<◌, ◌+◌, ℕ, zero, suc, Bool, ◌||◌, true, false, List, [], ◌∷◌, ◌++◌, length, map, get_or, refl, sym, ap, ap₂, ◌∙◌, subst, arith, if◌then◌else◌, Option, Some, None}
 use Rattle.std.specs.Prelude.{option_map}
-use Rattle.std.specs.List.{All, AllPairs, list_any}
+use Rattle.std.specs.List.{AllPairs, list_any}
 use Rattle.std.specs.Option.{option_or, unwrap_or}
 use Rattle.std.proofs.lemmas.Bool.{cond-false}
 use Rattle.std.proofs.lemmas.Bool.Decides.{nat_tests}
@@ -15,11 +15,10 @@ use Rattle.macho_image.specs.declared.place.Location.{Location}
 use Rattle.macho_image.specs.declared.places.record.PlaceFault.{PlaceFault}
 use Rattle.macho_image.specs.Index.{AreApart}
 use Rattle.macho_image.specs.Order.{addresses_of, in_address_order, is_near, first_close}
-use Rattle.macho_image.specs.Places.{place_fault, location, IsWord}
+use Rattle.macho_image.specs.Places.{place_fault}
 use Rattle.macho_image.specs.Runs.{first_fault}
 use Rattle.macho_image.specs.Streams.{Opcodes, End, Refused, Next, opcodes_of, records, reading_break, site_in}
 use Rattle.macho_image.proofs.Unbroken.{or_none}
-use Rattle.macho_image.proofs.WordLaws.{neither}
 use Rattle.bind_ops.specs.declared.kind.StreamKind.{StreamKind}
 use Rattle.bind_ops.specs.Binds.{Settings, start, bound_at, is_set, symbol_of, record_fault, recorded, moved as set_after, meaning, binds_of, places_of, bind_break, AreBinds}
 use Rattle.bind_ops.specs.Clash.{in_pairs, is_skew, clashing, least_of, clash_break}
@@ -60,7 +59,7 @@ module _ (image moved : Img) (all : HaveGone image moved) (apart : AreApart move
       → (first_fault (record_fault moved s) before offsets ≡ None) × (map (bound_at moved s) offsets ≡ map (gone_bind image moved) (map (bound_at image s) offsets))
   run_goes s before [] none = (refl, refl)
   run_goes s before (offset ∷ offsets) none =
-      let two = neither (record_fault image s offset before) (first_fault (record_fault image s) (before + 1) offsets) none in
+      let two = or_none (record_fault image s offset before) (first_fault (record_fault image s) (before + 1) offsets) none in
       let one = one_goes s offset before two.0 in
       let rest = run_goes s (before + 1) offsets two.1 in
       (ap₂ (λ (a b : Option Reason). option_or a b) one.0 rest.0, ap₂ (λ (b : BoundWord) (bs : List BoundWord). b ∷ bs) one.1 rest.1)

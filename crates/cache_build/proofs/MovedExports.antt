@@ -22,7 +22,6 @@ use Rattle.linkedit_merge.specs.Linkedit.{parts_of, linkedit_of, linkedit_size, 
 use Rattle.linkedit_merge.specs.Parts.{lens_of, span_of, bytes_in}
 use Rattle.linkedit_merge.specs.ReadBack.{IsTrie}
 use Rattle.linkedit_merge.specs.Shares.{Share, moved_trie, share_of}
-use Rattle.linkedit_merge.proofs.PartLaws.{length-joined}
 use Rattle.linkedit_merge.proofs.ReadLaws.{own_read}
 use Rattle.linkedit_merge.proofs.SpanLaws.{IsWithin, spots_within}
 use Rattle.linkedit_merge.proofs.TrieLaws.{moved_is_trie}
@@ -32,6 +31,7 @@ use Rattle.cache_build.proofs.BuildableSets.{IsReadOf, IsBuildable, set_shares, 
 use Rattle.cache_build.proofs.CacheFacts.{IsCache, moved_in}
 use Rattle.cache_build.proofs.MovedSpots.{own_moves, own_share, own_spots, share_in, share_is, spots_are}
 use Rattle.cache_build.proofs.MovedTargets.{IsMoved, same_exports, none_strays}
+use Rattle.linkedit_merge.proofs.MergeLaws.{length-linkedit_of}
 
 -- ---- a range of the linkedit, in the file
 
@@ -63,15 +63,11 @@ span_bytes b linkedit start s within fits same =
 
 -- ---- the bytes of the trie
 
-linkedit_long : (shares : List Share) → length (linkedit_of shares) ≡ linkedit_size shares
-unfolding linkedit_of linkedit_size
-linkedit_long shares = length-joined [] (parts_of shares)
-
 -- the bytes of a range of the linkedit, where the cache has it
 pub spotted_bytes : (bits : ℕ) (is : List Img) → IsCache bits is → (s : Span) → IsWithin (set_start bits is) (linkedit_size (set_shares is)) s
     → take s.len (drop s.at (slid_of bits is 0)) ≡ bytes_in (set_start bits is) (linkedit_of (set_shares is)) s
 spotted_bytes bits is cache s within =
-    let long : length (linkedit_of (set_shares is)) ≡ linkedit_size (set_shares is) = linkedit_long (set_shares is) in
+    let long : length (linkedit_of (set_shares is)) ≡ linkedit_size (set_shares is) = length-linkedit_of (set_shares is) in
     let whole : length (slid_of bits is 0) ≡ set_span bits is = cache.slid_long 0 in
     let inside : IsWithin (set_start bits is) (length (linkedit_of (set_shares is))) s = subst (λ (n : ℕ). IsWithin (set_start bits is) n s) (sym long) within in
     span_bytes (slid_of bits is 0) (linkedit_of (set_shares is)) (set_start bits is) s inside (omega (arith, long, whole, paged-covers (linkedit_size (set_shares is)))) (λ n less. cache.linkedit 0 n less)

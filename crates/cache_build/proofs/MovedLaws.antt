@@ -11,13 +11,14 @@ use Rattle.macho_edit.specs.declared.segment.SegmentPlace.{SegmentPlace}
 use Rattle.macho_edit.specs.declared.spots.LinkSpots.{LinkSpots}
 use Rattle.macho_edit.specs.Placed.{places_of}
 use Rattle.macho_edit.specs.MovedImage.{seated_all, followed, moved_image}
-use Rattle.macho_edit.proofs.PlaceLaws.{place_other}
+use Rattle.macho_edit.proofs.PlaceLaws.{place_other, length-places_of}
 use Rattle.macho_image.specs.Places.{above}
 use Rattle.macho_image.specs.Segments.{start_of}
 use Rattle.load_model.specs.Corresponds.{shape_of}
 use Rattle.load_model.proofs.LoadingLaws.{IsLow, low_at}
 use Rattle.load_model.proofs.ShapeLaws.{AreKept, AreSectionsKept, shape_kept}
-use Rattle.cache_build.proofs.SectionLaws.{sound_apart, section_inside, IsInside}
+use Rattle.cache_build.proofs.SectionLaws.{section_inside, IsInside}
+use Rattle.load_model.proofs.SoundApart.{sound_apart}
 
 -- where the segments start, and where they go, by their numbers
 abbrev starts_in : List Seg → ℕ → ℕ
@@ -156,17 +157,6 @@ moved_section_at image moves spots b sound j u v s m from to home move =
       segment = sym (ap (λ (x : Section). x.segment) here);
     }
 
--- a section of the moved image is one of the image
-pub moved_from : (image : Img) (moves : List Moved) (spots : LinkSpots) (b : List ℕ) (j : ℕ) (v : Section) → slice_get (moved_image image moves spots b).sections j ≡ Some v
-    → (u : Section) × (slice_get image.sections j ≡ Some u)
-unfolding moved_image
-moved_from image moves spots b j v got = first image.sections j got
-  where
-    first : (us : List Section) (k : ℕ) → slice_get (map (followed image.segments (places_of spots moves image.segments)) us) k ≡ Some v → (u : Section) × (slice_get us k ≡ Some u)
-    first [] k is = absurd (cc)
-    first (u ∷ us) zero is = (u, refl)
-    first (u ∷ us) (suc k) is = first us k is
-
 -- where a segment of the moved image starts
 seated_start : (b : List ℕ) (ps : List SegmentPlace) (ss : List Seg) (g : ℕ) (t : Seg) → length ps ≡ length ss → slice_get ss g ≡ Some t → start_of (slice_get (seated_all b ps ss) g) ≡ addresses_in ps g
 seated_start b [] [] g t long got = absurd (cc)
@@ -175,15 +165,9 @@ seated_start b (p ∷ ps) [] g t long got = absurd (cc)
 seated_start b (p ∷ ps) (s ∷ ss) zero t long got = refl
 seated_start b (p ∷ ps) (s ∷ ss) (suc g) t long got = seated_start b ps ss g t (omega arith) got
 
-length-places : (spots : LinkSpots) (moves : List Moved) (ss : List Seg) → length moves ≡ length ss → length (places_of spots moves ss) ≡ length ss
-length-places spots [] [] long = refl
-length-places spots [] (s ∷ ss) long = absurd (omega arith)
-length-places spots (m ∷ ms) [] long = absurd (omega arith)
-length-places spots (m ∷ ms) (s ∷ ss) long = ap suc (length-places spots ms ss (omega arith))
-
 pub moved_start : (image : Img) (moves : List Moved) (spots : LinkSpots) (b : List ℕ) (g : ℕ) (m : Moved) (t : Seg) → length moves ≡ length image.segments → slice_get moves g ≡ Some m → slice_get image.segments g ≡ Some t → is_linkedit_segment t ≡ false
     → start_of (slice_get (moved_image image moves spots b).segments g) ≡ m.address
 unfolding moved_image
 moved_start image moves spots b g m t long move got other =
-    seated_start b (places_of spots moves image.segments) image.segments g t (length-places spots moves image.segments long) got
+    seated_start b (places_of spots moves image.segments) image.segments g t (length-places_of spots moves image.segments long) got
     ∙ moved_is spots moves image.segments g m t move got other

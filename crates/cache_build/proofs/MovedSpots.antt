@@ -120,7 +120,7 @@ six_groups : (i : Img) (m : List Moved) → length (share_of i (tables_of i) m).
 unfolding share_of tables_of
 six_groups i m = refl
 
-share_tables : (i : Img) (m : List Moved) → AreTables (length i.sections) (tables_of i) → AreTables (length i.sections) (share_of i (tables_of i) m).tables
+pub share_tables : (i : Img) (m : List Moved) → AreTables (length i.sections) (tables_of i) → AreTables (length i.sections) (share_of i (tables_of i) m).tables
 unfolding share_of
 share_tables i m are = moved_are_tables (length i.sections) i m (tables_of i) are
 

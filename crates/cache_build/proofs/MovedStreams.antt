@@ -1,37 +1,31 @@
 -- An image of a set that can be built is read of the cache with the binds of its file, where their words go: its streams break no rule there.
-use Rattle.std.proofs.Common.{◌≡◌, ◌≤◌, ◌<◌, ℕ, zero, suc, ◌+◌, ◌-◌, ◌*◌, ◌%◌, ◌&&◌, Bool, true, false, not, Option, Some, None, List, [], ◌∷◌, take, drop, length, map, get_or, refl, sym, ap, ap₂, ◌∙◌, subst, arith, inl, inr, if◌then◌else◌, nat_eq, nat_le}
+use Rattle.std.proofs.Common.{◌≡◌, ◌≤◌, ◌<◌, ℕ, zero, suc, ◌+◌, ◌-◌, ◌%◌, ◌&&◌, Bool, true, false, not, Option, Some, List, [], ◌∷◌, length, map, get_or, refl, sym, ap, ap₂, ◌∙◌, subst, arith, inl, inr, if◌then◌else◌, nat_eq, nat_le}
 use Rattle.std.specs.Prelude.{option_map, slice_get, position}
 use Rattle.std.specs.List.{AllByRecursion}
 use Rattle.std.proofs.lemmas.Bool.{cases_Bool, eqb-true}
 use Rattle.std.proofs.lemmas.Bool.Decides.{nat_tests}
-use Rattle.std.proofs.lemmas.Option.{same_Some, slice_get_read, slice_get_within, get_or_from_slice_get}
-use Rattle.dsc_base.specs.declared.fault.Site.{Site}
-use Rattle.dsc_base.specs.declared.fault.Span.{Span}
+use Rattle.std.proofs.lemmas.Option.{same_Some, slice_get_within, get_or_from_slice_get}
 use Rattle.macho_image.specs.Records.{Img, Seg, SegmentLoad}
-use Rattle.macho_image.specs.Macho.{header_size, loads_of, segment_loads, commands_of, command_where, is_dyld_info}
+use Rattle.macho_image.specs.Macho.{header_size, loads_of, segment_loads}
 use Rattle.macho_image.specs.Rules.{is_linkedit_segment, is_well_shaped}
 use Rattle.macho_image.specs.Breaks.{IsSound}
-use Rattle.macho_image.specs.Order.{addresses_of, in_address_order, first_close}
 use Rattle.macho_image.specs.Places.{holds, section_at}
-use Rattle.macho_image.specs.Streams.{opcodes_in, records, reading_break}
 use Rattle.macho_image.specs.declared.section.Section.{Section}
 use Rattle.macho_image.specs.declared.place.Moved.{Moved}
-use Rattle.macho_image.proofs.SoundSegments.{segments_keep_apart}
-use Rattle.macho_edit.specs.MovedImage.{seated, seated_all, followed, named_by, moved_image}
+use Rattle.macho_edit.specs.MovedImage.{seated, seated_all, followed, moved_image}
 use Rattle.macho_edit.specs.Placed.{places_of}
 use Rattle.macho_edit.specs.Segments.{place_for}
 use Rattle.macho_edit.specs.declared.segment.SegmentPlace.{SegmentPlace}
 use Rattle.macho_edit.specs.declared.spots.LinkSpots.{LinkSpots}
-use Rattle.macho_edit.proofs.Grounds.{all_fail, all_shaped}
-use Rattle.macho_edit.proofs.KeptSections.{IsShaped}
 use Rattle.macho_edit.proofs.PlaceLaws.{place_other}
-use Rattle.cache_layout.proofs.SoundLaws.{sound_rules, shape_parts, load-of}
+use Rattle.cache_layout.proofs.SoundLaws.{load-of}
 use Rattle.dep_closure.proofs.PositionLaws.{position-cons}
-use Rattle.cache_build.proofs.MovedLaws.{GoLow, move_of}
+use Rattle.cache_build.proofs.MovedLaws.{move_of}
 use Rattle.cache_build.proofs.MovedTargets.{IsMoved}
-use Rattle.cache_build.proofs.MovedWords.{HasGone, HaveGone}
+use Rattle.cache_build.proofs.MovedWords.{HaveGone}
 use Rattle.cache_build.proofs.Protections.{writable_owned}
 use Rattle.cache_build.proofs.SectionLaws.{IsInside, section_inside}
+use Rattle.macho_image.proofs.HeaderRules.{all_fail, sound_rules, shape_parts, IsShaped, all_shaped}
 
 -- ---- a segment
 
@@ -51,7 +45,7 @@ starts_well image sound g s found =
     let lt : g < length image.segments = slice_get_within image.segments g s found in
     let is : s ≡ get_or image.segments g s = sym (get_or_from_slice_get image.segments g s s found) in
     let command = load-of image.segments ls sound.segments g s lt is in
-    let parts = shape_parts (header_size image.header) ls (sound_rules image sound).shape in
+    let parts = shape_parts (header_size image.header) ls (sound_rules image sound).segments in
     let shaped : IsShaped command.0 = shaped_at ls g command.0 (all_shaped ls (all_fail (λ l. not (is_well_shaped l)) ls parts.1)) command.1 command.2 in
     let address : s.vmaddr ≡ command.0.vmaddr = ap (λ (t : Seg). t.vmaddr) command.3 in
     let size : s.vmsize ≡ command.0.vmsize = ap (λ (t : Seg). t.vmsize) command.3 in

@@ -3,9 +3,6 @@ use Rattle.std.proofs.Common.{◌≡◌, ◌≤◌, ◌<◌, ℕ, zero, suc, ◌
 use Rattle.std.specs.Prelude.{option_map, slice_get, position, unwrap_or}
 use Rattle.std.proofs.lemmas.List.{length-map, get_or-map}
 use Rattle.std.proofs.lemmas.Option.{same_Some, slice_get_read, slice_get_within, get_or_from_slice_get}
-use Rattle.dsc_base.specs.Refusals.{broken, in_image}
-use Rattle.dsc_base.specs.declared.fault.Break.{Break}
-use Rattle.dsc_base.specs.declared.rule.Rule.TheVariants.{ExportOutside}
 use Rattle.macho_image.specs.Breaks.{IsSound}
 use Rattle.macho_image.specs.Places.{wrap}
 use Rattle.macho_image.specs.Records.{Img, Seg}
@@ -35,6 +32,7 @@ use Rattle.linkedit_merge.specs.Exports.{new_start, start_in, new_header, moved_
 use Rattle.linkedit_merge.proofs.LeadLaws.{leads_along}
 use Rattle.load_model.specs.Corresponds.{SameTarget, SameExports}
 use Rattle.cache_build.proofs.MovedLaws.{GoLow, move_of, moved_start}
+use Rattle.prebind.proofs.SameLaws.{unbroken}
 
 -- an image whose segments can be moved so: there is a move for each, they end low, and the moved image breaks no rule
 pub record IsMoved (image : Img) (moves : List Moved) (spots : LinkSpots) (b : List ℕ) : Type 0 where
@@ -153,10 +151,6 @@ same_exports image moves spots b is (e ∷ es) none =
     (refl, refl, same_target image moves spots b is e.target parts.0, same_exports image moves spots b is es parts.1)
 
 -- ---- the exports of an image of a set lead inside its segments
-
-unbroken : (k : ℕ) (o : Option ℕ) → option_map (in_image k) (broken ExportOutside o) ≡ None → o ≡ None
-unbroken k None is = refl
-unbroken k (Some n) is = absurd (let e : ◌≡◌ {A = Option Break} (Some (record { rule = ExportOutside; image = k; at = n })) None = is in cc)
 
 pub none_strays : (is : List Img) (k : ℕ) (i : Img) → k < length is → i ≡ get_or is k i → export_break (image_set is) k ≡ None → position (λ (e : Export). strays i.segments e.target) (exports_of i.streams.exports) ≡ None
 unfolding export_break image_set lists_of

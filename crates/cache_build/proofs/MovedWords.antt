@@ -1,6 +1,6 @@
 -- Words of an image whose segments stand elsewhere, each with its sections: what a record names there.
-use Rattle.std.proofs.Common.{◌≡◌, ◌≤◌, ◌<◌, ◌⊎◌, ◌+◌, ◌-◌, ◌%◌, ◌^◌, ℕ, max, Bool, true, false, not, ◌&&◌, List, refl, sym, ap, ◌∙◌, subst, arith, if◌then◌else◌, nat_le, nat_lt, nat_eq, inl, inr, Option, Some, None}
-use Rattle.std.specs.Prelude.{option_map, slice_get}
+use Rattle.std.proofs.Common.{◌≡◌, ◌≤◌, ◌<◌, ◌+◌, ◌-◌, ◌%◌, ℕ, max, Bool, true, false, not, ◌&&◌, List, refl, sym, ap, ◌∙◌, arith, if◌then◌else◌, nat_le, nat_lt, nat_eq, inl, inr, Option, Some, None}
+use Rattle.std.specs.Prelude.{slice_get}
 use Rattle.std.specs.Option.{option_or, unwrap_or}
 use Rattle.std.proofs.lemmas.Bool.{cases_Bool}
 use Rattle.std.proofs.lemmas.Bool.Decides.{nat_tests}
@@ -8,15 +8,14 @@ use Rattle.std.proofs.lemmas.Option.{same_Some}
 use Rattle.macho_image.specs.Records.{Img, Seg}
 use Rattle.macho_image.specs.declared.section.Section.{Section}
 use Rattle.macho_image.specs.declared.place.Location.{Location}
-use Rattle.macho_image.specs.declared.places.record.PlaceFault.{PlaceFault}
-use Rattle.macho_image.specs.declared.places.record.PlaceFault.TheVariants.{OutsideSegment, NotWritable, OutsideSection, Misaligned, CrossesPage, TooMany}
+use Rattle.macho_image.specs.declared.places.record.PlaceFault.TheVariants.{OutsideSegment, NotWritable, Misaligned, CrossesPage, TooMany}
 use Rattle.macho_image.specs.declared.places.segment_index.Inside.{Inside}
 use Rattle.macho_image.specs.Index.{AreApart}
 use Rattle.macho_image.specs.Places.{wrap, lies_in, section_at, segment_fault, section_fault, word_fault, address_in, fault_in, place_fault, location_in, location, IsWord}
-use Rattle.macho_image.specs.Segments.{start_of, inside}
+use Rattle.macho_image.specs.Segments.{start_of}
 use Rattle.dsc_base.specs.Limits.{record_limit}
 use Rattle.macho_image.proofs.SegmentLaws.{inside_here}
-use Rattle.macho_image.proofs.WordLaws.{neither, accepted_one}
+use Rattle.macho_image.proofs.Unbroken.{or_none}
 use Rattle.cache_build.proofs.WordEdits.{same_or_not}
 use Rattle.cache_build.proofs.FarWords.{AreFar}
 
@@ -56,8 +55,8 @@ record Tried (s : Seg) (sections : List Section) (g address before : ℕ) : Type
 tried : (s : Seg) (sections : List Section) (g address before : ℕ)
     → option_or (segment_fault s address) (option_or (section_fault (section_at sections g address)) (word_fault address before)) ≡ None → Tried s sections g address before
 tried s sections g address before none =
-    let first = neither (segment_fault s address) (option_or (section_fault (section_at sections g address)) (word_fault address before)) none in
-    let rest = neither (section_fault (section_at sections g address)) (word_fault address before) first.1 in
+    let first = or_none (segment_fault s address) (option_or (section_fault (section_at sections g address)) (word_fault address before)) none in
+    let rest = or_none (section_fault (section_at sections g address)) (word_fault address before) first.1 in
     go (lies_in s address) (nat_eq s.initprot 3) (section_at sections g address) (nat_eq (address % 4) 0) (nat_lt 0xFF8 (address % 4096)) (nat_le record_limit before) refl refl refl refl refl refl first.0 rest.0 rest.1
   where
     go : (a b : Bool) (o : Option ℕ) (x y z : Bool) → lies_in s address ≡ a → nat_eq s.initprot 3 ≡ b → section_at sections g address ≡ o → nat_eq (address % 4) 0 ≡ x → nat_lt 0xFF8 (address % 4096) ≡ y → nat_le record_limit before ≡ z

@@ -2,7 +2,7 @@
 use Rattle.std.proofs.Common.{◌≡◌, ◌≤◌, ◌<◌, ◌⊎◌, ℕ, zero, suc, ◌+◌, ◌-◌, false, Some, List, [], ◌++◌, drop, length, get_or, replicate, refl, sym, ap, ap₂, ◌∙◌, subst, arith, inl, inr}
 use Rattle.std.specs.Prelude.{slice_get, slice_index_or}
 use Rattle.std.proofs.lemmas.Bool.{cases_lt}
-use Rattle.std.proofs.lemmas.List.{get_or_default, get_or-append_right, get_or-drop, get_or-replicate, get_or_past, length-replicate}
+use Rattle.std.proofs.lemmas.List.{get_or_default, get_or-append_right, get_or-drop, get_or_past}
 use Rattle.std.proofs.lemmas.Option.{same_Some, slice_get_read}
 use Rattle.std.proofs.Math.ListN.{get_or-append}
 use Rattle.dsc_base.specs.Region.{region_start, paged}
@@ -24,7 +24,7 @@ use Rattle.prebind.specs.Words.{words_of}
 use Rattle.load_model.specs.Loading.{in_memory}
 use Rattle.load_model.specs.Mapped.{mapped}
 use Rattle.load_model.specs.Corresponds.{InWord}
-use Rattle.load_model.proofs.LoadingLaws.{in_memory-byte}
+use Rattle.load_model.proofs.LoadingLaws.{in_memory-byte, zero_byte}
 use Rattle.load_model.proofs.LoadedBytes.{IsLoadedByte}
 use Rattle.load_model.proofs.WordCases.{IsIn, IsOf, word_in, covered}
 use Rattle.load_model.proofs.WordPlaces.{one_section}
@@ -111,13 +111,6 @@ free_place is accepted k g d i s there other lt free =
     segment_got j n t inside own = slice_get_read j.segments (length j.segments) n t refl inside own
 
 -- ---- bytes behind the header
-
-zero_byte : (n d : ℕ) → ◌≡◌ {A = ℕ} (get_or (replicate n 0) d 0) 0
-zero_byte n d =
-    elim (cases_lt d n) [
-      | inl lt ↦ get_or-replicate n d 0 0 lt
-      | inr past ↦ get_or_past (replicate n 0) d 0 (omega (arith, past, length-replicate {A = ℕ} n 0))
-    ]
 
 zeros_behind : (bytes : List ℕ) (n d : ℕ) → get_or (bytes ++ replicate n 0) d 0 ≡ get_or bytes d 0
 zeros_behind bytes n d =

@@ -1,9 +1,8 @@
 -- Where a rebase that isn't bound leads: into a segment of its image other than `__LINKEDIT`, or to its end.
-use Rattle.std.proofs.Common.{◌≡◌, ◌≤◌, ◌<◌, ℕ, ◌+◌, ◌-◌, Bool, true, false, ◌&&◌, ◌||◌, nat_eq, nat_lt, Option, Some, None, List, [], ◌∷◌, length, refl, sym, ap, ◌∙◌, arith, inl, inr}
+use Rattle.std.proofs.Common.{◌≡◌, ◌≤◌, ◌<◌, ℕ, ◌+◌, ◌-◌, false, ◌&&◌, nat_eq, nat_lt, Option, Some, None, List, [], ◌∷◌, length, refl, sym, ap, ◌∙◌, arith, inl, inr}
 use Rattle.std.specs.Prelude.{slice_get, option_map}
 use Rattle.std.specs.Option.{option_and_then}
-use Rattle.std.proofs.lemmas.Bool.{cases_Bool, cond-true, cond-false}
-use Rattle.std.proofs.lemmas.Bool.Decides.{nat_tests}
+use Rattle.std.proofs.lemmas.Bool.{cases_Bool, cond-true, cond-false, or_parts, ltb-false}
 use Rattle.std.proofs.lemmas.Option.{same_Some, slice_get_within, get_or_from_slice_get}
 use Rattle.macho_image.specs.Records.{Seg, Img}
 use Rattle.macho_image.specs.Rules.{is_linkedit_segment}
@@ -100,19 +99,12 @@ target_owned i rebases r t sound own got = elim (cases_Bool (nat_eq r.to_section
       section_owned i sound (r.to_section - 1) found.0 t there (ap (λ (g : ℕ). slice_get i.segments g) segment ∙ got)
 ]
 
-pub or_false : (a b : Bool) → (a || b) ≡ false → (a ≡ false) × (b ≡ false)
-or_false true b is = absurd (cc)
-or_false false b is = (refl, is)
-
-pub not_below : (a b : ℕ) → nat_lt a b ≡ false → b ≤ a
-not_below a b is = grind (arith, nat_tests)
-
 recorded_leads : (set : ImageSet) (k g value : ℕ) (i : Img) (s : StreamLists) (o : Option Seg) → IsOne set k i s → IsRecorded s.references g → slice_get i.segments g ≡ o → is_out_of o value ≡ false → LeadsInto k i (Place k g (above (start_of (slice_get i.segments g)) value))
 recorded_leads set k g value i s None one by is out = absurd (cc)
 recorded_leads set k g value i s (Some t) one by is out =
-    let two = or_false (nat_lt value t.vmaddr) (nat_lt (t.vmaddr + t.vmsize) value) out in
-    let low : t.vmaddr ≤ value = not_below value t.vmaddr two.0 in
-    let high : value ≤ t.vmaddr + t.vmsize = not_below (t.vmaddr + t.vmsize) value two.1 in
+    let two = or_parts (nat_lt value t.vmaddr) (nat_lt (t.vmaddr + t.vmsize) value) out in
+    let low : t.vmaddr ≤ value = ltb-false value t.vmaddr two.0 in
+    let high : value ≤ t.vmaddr + t.vmsize = ltb-false (t.vmaddr + t.vmsize) value two.1 in
     let own : IsReference i s.rebases by.reference = all_in (IsReference i s.rebases) s.references by.reference (references_accepted i s one.at.sound one.split).all by.there in
     let to : own.target.segment ≡ g = own.to_segment ∙ by.to in
     let there : slice_get i.segments own.target.segment ≡ Some t = ap (λ (n : ℕ). slice_get i.segments n) to ∙ is in

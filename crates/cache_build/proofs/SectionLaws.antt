@@ -1,75 +1,24 @@
 -- What the rules on an image's header say of its segments and sections as they are loaded: no address is in two segments, and each section lies in its segment.
-use Rattle.std.proofs.Common.{◌≡◌, ◌≤◌, ◌<◌, ◌⊎◌, ℕ, zero, suc, ◌+◌, ◌-◌, ◌*◌, ◌/◌, min, max, true, false, not, Some, None, List, [], ◌∷◌, ◌++◌, map, length, get_or, refl, sym, ap, ◌∙◌, subst, arith, inl, inr}
+use Rattle.std.proofs.Common.{◌≡◌, ◌≤◌, ◌<◌, ℕ, zero, suc, ◌+◌, ◌-◌, ◌*◌, ◌/◌, true, false, not, Some, None, List, [], ◌∷◌, map, length, get_or, refl, sym, ap, ◌∙◌, subst, arith, inl, inr}
 use Rattle.std.specs.Prelude.{slice_get}
 use Rattle.std.specs.List.{AllByRecursion}
-use Rattle.std.proofs.lemmas.Bool.{cond-true, cond-false}
+use Rattle.std.proofs.lemmas.Bool.{cond-true, and_parts, not-false}
 use Rattle.std.proofs.lemmas.Option.{same_Some}
 use Rattle.macho_image.specs.Records.{Img, Seg, SegmentLoad, SectionLoad}
 use Rattle.macho_image.specs.declared.section.Section.{Section}
 use Rattle.macho_image.specs.Macho.{header_size, loads_of, segment_loads, segment_with, section_of, sections_from}
-use Rattle.macho_image.specs.Rules.{first_crowded, is_good_text, is_linkedit, is_linkedit_name, is_linkedit_segment, is_text, is_well_shaped, misplaced, misplaced_behind, sections_stand, sections_start, section_stands, shares_address}
+use Rattle.macho_image.specs.Rules.{first_crowded, is_good_text, is_linkedit, is_linkedit_name, is_linkedit_segment, is_text, is_well_shaped, misplaced, misplaced_behind, sections_stand, sections_start, section_stands}
 use Rattle.macho_image.specs.Breaks.{unread, IsSound}
-use Rattle.macho_image.proofs.Sharing.{segments_apart}
-use Rattle.macho_image.proofs.Unbroken.{least_none_both}
-use Rattle.macho_edit.proofs.BoolLaws.{and_parts, bool_cases, lower_not, not_false}
-use Rattle.macho_edit.proofs.Grounds.{all_bare, all_fail, all_room, all_shaped, HasRoom, IsBare}
-use Rattle.macho_edit.proofs.KeptSections.{IsShaped, Stands, stands_from}
-use Rattle.macho_edit.proofs.KeptSegments.{good_or, good_text, IsGoodText}
-use Rattle.macho_edit.proofs.SoundLaws.{sound_rules}
-use Rattle.cache_layout.proofs.SoundLaws.{shape_parts}
+use Rattle.macho_image.proofs.Unbroken.{least_none_both, when_true}
+use Rattle.macho_edit.proofs.BoolLaws.{bool_cases}
+use Rattle.macho_edit.proofs.Grounds.{all_bare, all_room, HasRoom, IsBare}
+use Rattle.macho_edit.proofs.KeptSections.{Stands, stands_from}
+use Rattle.macho_edit.proofs.KeptSegments.{good_text, IsGoodText}
 use Rattle.macho_image.specs.Places.{wrap}
 use Rattle.load_model.specs.Loading.{in_memory, segment_cells}
-use Rattle.load_model.proofs.LoadingLaws.{KeepApart, IsLow, AreApartFrom, AreApart, loaded_cell}
-
-keep_apart : (s t : Seg) (l k : SegmentLoad) → unread s ≡ segment_with [] l → unread t ≡ segment_with [] k → shares_address l k ≡ false → KeepApart s t
-keep_apart s t l k first second apart =
-    let a : s.vmaddr ≡ l.vmaddr = ap (λ (x : Seg). x.vmaddr) first in
-    let b : s.vmsize ≡ l.vmsize = ap (λ (x : Seg). x.vmsize) first in
-    let c : t.vmaddr ≡ k.vmaddr = ap (λ (x : Seg). x.vmaddr) second in
-    let d : t.vmsize ≡ k.vmsize = ap (λ (x : Seg). x.vmsize) second in
-    let none : min (l.vmaddr + l.vmsize) (k.vmaddr + k.vmsize) ≤ max l.vmaddr k.vmaddr = lower_not (max l.vmaddr k.vmaddr) (min (l.vmaddr + l.vmsize) (k.vmaddr + k.vmsize)) apart in
-    λ x low high other end. omega arith
-
-apart_from : (s : Seg) (l : SegmentLoad) (ss : List Seg) (ls : List SegmentLoad) → unread s ≡ segment_with [] l → map unread ss ≡ map (segment_with []) ls
-    → ((j : ℕ) (d : SegmentLoad) → j < length ls → shares_address l (get_or ls j d) ≡ false) → AreApartFrom s ss
-apart_from s l [] ls here same apart = tt
-apart_from s l (t ∷ ts) [] here same apart = absurd (cc)
-apart_from s l (t ∷ ts) (k ∷ ks) here same apart =
-    let first : unread t ≡ segment_with [] k = cc in
-    let later : map unread ts ≡ map (segment_with []) ks = cc in
-    (keep_apart s t l k here first (apart 0 k (omega arith)), apart_from s l ts ks here later (λ j d lt. apart (suc j) d (omega arith)))
-
-low_one : (s : Seg) (l : SegmentLoad) → unread s ≡ segment_with [] l → length s.bytes ≡ s.filesize → IsShaped l → IsLow s
-low_one s l here size shaped =
-    let a : s.vmaddr ≡ l.vmaddr = ap (λ (x : Seg). x.vmaddr) here in
-    let b : s.vmsize ≡ l.vmsize = ap (λ (x : Seg). x.vmsize) here in
-    let c : s.filesize ≡ l.filesize = ap (λ (x : Seg). x.filesize) here in
-    let low : l.vmaddr + l.vmsize ≤ 0x8000_0000_0000 = shaped.low in
-    let filled : l.filesize ≤ l.vmsize = shaped.filled in
-    record { low = omega arith; bytes = size; within = omega arith }
-
-all_apart : (ss : List Seg) (ls : List SegmentLoad) → map unread ss ≡ map (segment_with []) ls → map (λ (s : Seg). length s.bytes) ss ≡ map (λ (s : Seg). s.filesize) ss → AllByRecursion IsShaped ls
-    → ((i j : ℕ) (d : SegmentLoad) → i < j → j < length ls → shares_address (get_or ls i d) (get_or ls j d) ≡ false) → AreApart ss
-all_apart [] ls same sizes shaped apart = tt
-all_apart (s ∷ ss) [] same sizes shaped apart = absurd (cc)
-all_apart (s ∷ ss) (l ∷ ls) same sizes shaped apart =
-    let here : unread s ≡ segment_with [] l = cc in
-    let later : map unread ss ≡ map (segment_with []) ls = cc in
-    let size : length s.bytes ≡ s.filesize = cc in
-    let rest : map (λ (t : Seg). length t.bytes) ss ≡ map (λ (t : Seg). t.filesize) ss = cc in (
-      low_one s l here size shaped.0,
-      apart_from s l ss ls here later (λ j d lt. apart 0 (suc j) d (omega arith) (omega arith)),
-      all_apart ss ls later rest shaped.1 (λ i j d lt within. apart (suc i) (suc j) d (omega arith) (omega arith)),
-    )
-
--- an image's segments lie below 2 ^ 47 and share no address
-pub sound_apart : (image : Img) → IsSound image → AreApart image.segments
-sound_apart image sound =
-    let ls : List SegmentLoad = segment_loads (loads_of image.header) in
-    let rules = sound_rules image sound in
-    let parts = shape_parts (header_size image.header) ls rules.segments in
-    all_apart image.segments ls sound.segments sound.sizes (all_shaped ls (all_fail (λ s. not (is_well_shaped s)) ls parts.1))
-    (segments_apart (header_size image.header) ls rules.segments)
+use Rattle.macho_image.proofs.HeaderRules.{all_fail, sound_rules, shape_parts, IsShaped, all_shaped}
+use Rattle.macho_image.proofs.SectionLaws.{start_above}
+use Rattle.ref_rewrite.proofs.HomeLaws.{one_of_two}
 
 -- a section and the segment that it lies in; in the first segment, behind the header
 pub record IsInside (image : Img) (u : Section) : Type 0 where
@@ -98,12 +47,6 @@ stands_in s start floor k zero u (x ∷ xs) le is got =
 stands_in s start floor k (suc j) u (x ∷ xs) le is got =
     stands_in s start (x.addr + x.size) k j u xs (omega (arith, le)) (and_parts (section_stands s start floor x) (sections_stand s start (x.addr + x.size) xs) is).1 got
 
--- an element of two lists, one behind the other, is of one of them
-one_of_two : (us vs : List Section) (j : ℕ) (u : Section) → slice_get (us ++ vs) j ≡ Some u → (slice_get us j ≡ Some u) ⊎ ((i : ℕ) × (slice_get vs i ≡ Some u))
-one_of_two [] vs j u got = inr (j, got)
-one_of_two (v ∷ us) vs zero u got = inl got
-one_of_two (v ∷ us) vs (suc j) u got = one_of_two us vs j u got
-
 -- the command of a section's segment
 record IsLoaded (size k : ℕ) (ls : List SegmentLoad) (u : Section) : Type 0 where
   home : SegmentLoad
@@ -120,7 +63,7 @@ is_loaded size k (l ∷ ls) j u stand got = elim (one_of_two (map (section_of k)
     place = 0;
     found = refl;
     stands = subst (λ (n : ℕ). StandsIn l (sections_start size l) n u) (omega arith)
-        (stands_in l (sections_start size l) 0 k j u l.sections (omega arith) (not_false (sections_stand l (sections_start size l) 0 l.sections) stand.0) here);
+        (stands_in l (sections_start size l) 0 k j u l.sections (omega arith) (not-false (sections_stand l (sections_start size l) 0 l.sections) stand.0) here);
   }
   | inr later ↦
       let rest : IsLoaded size (k + 1) ls u = is_loaded size (k + 1) ls later.0 u stand.1 later.1 in
@@ -162,14 +105,8 @@ other_of_sections l shaped room bare some = elim (bool_cases (is_linkedit l)) [
 first_text : (size : ℕ) (ls : List SegmentLoad) (l : SegmentLoad) → misplaced size ls ≡ None → slice_get ls 0 ≡ Some l → is_text l ≡ true
 first_text size [] l none got = absurd (cc)
 first_text size (k ∷ ls) l none got =
-    let good : IsGoodText size k = good_text size k (good_or (is_good_text size k) k.at (misplaced_behind ls) none).0 in
+    let good : IsGoodText size k = good_text size k (when_true (is_good_text size k) k.at (misplaced_behind ls) none).0 in
     subst (λ (s : SegmentLoad). is_text s ≡ true) (same_Some k l got) good.named
-
-starts_above : (size : ℕ) (l : SegmentLoad) → l.vmaddr ≤ sections_start size l
-starts_above size l = elim (bool_cases (is_text l)) [
-  | inl other ↦ omega (arith, cond-false (is_text l) (l.vmaddr + size) l.vmaddr other)
-  | inr is ↦ omega (arith, cond-true (is_text l) (l.vmaddr + size) l.vmaddr is)
-]
 
 -- an image's section lies in its segment, which isn't `__LINKEDIT`
 pub section_inside : (image : Img) → IsSound image → (j : ℕ) (u : Section) → slice_get image.sections j ≡ Some u → IsInside image u
@@ -186,7 +123,7 @@ section_inside image sound j u got =
     let address : home.0.vmaddr ≡ found.home.vmaddr = ap (λ (x : Seg). x.vmaddr) home.2 in
     let long : home.0.vmsize ≡ found.home.vmsize = ap (λ (x : Seg). x.vmsize) home.2 in
     let number : u.segment ≡ found.place = omega (arith, stands.number) in
-    let start : found.home.vmaddr ≤ sections_start size found.home = starts_above size found.home in
+    let start : found.home.vmaddr ≤ sections_start size found.home = start_above size found.home in
     let other : is_linkedit found.home ≡ false =
     other_of_sections found.home (all_at IsShaped ls found.place found.home shaped found.found) (all_at HasRoom ls found.place found.home (all_room (loads_of image.header)) found.found)
     (all_at IsBare ls found.place found.home (all_bare size ls parts.3) found.found) stands.some in
@@ -214,26 +151,3 @@ pub record IsLoadedByte (image : Img) (slide offset : ℕ) (u : Section) : Type 
   pub other : is_linkedit_segment home ≡ false
   pub behind : u.segment ≡ 0 → length image.header ≤ distance
   pub there : segment_cells slide image.segments (wrap (u.addr + offset + slide)) ≡ Some (get_or (in_memory home) distance 0)
-
-pub loaded_section_byte : (image : Img) → IsSound image → (j offset slide : ℕ) (u : Section) → slice_get image.sections j ≡ Some u → offset < u.size → IsLoadedByte image slide offset u
-loaded_section_byte image sound j offset slide u got lt =
-    let is : IsInside image u = section_inside image sound j u got in
-    let above : is.home.vmaddr ≤ u.addr = is.above in
-    let inside : u.addr + u.size ≤ is.home.vmaddr + is.home.vmsize = is.inside in
-    let within : u.addr - is.home.vmaddr + offset < is.home.vmsize = omega arith in
-    let whole : length image.header ≡ header_size image.header = sound.whole in
-    let same : u.addr + offset ≡ is.home.vmaddr + (u.addr - is.home.vmaddr + offset) = omega arith in
-    record {
-      home = is.home;
-      found = is.found;
-      above = is.above;
-      distance = u.addr - is.home.vmaddr + offset;
-      far = refl;
-      within = within;
-      other = is.other;
-      behind = λ first.
-          let start : is.home.vmaddr + header_size image.header ≤ u.addr = is.behind first in
-          omega (arith, start, whole);
-      there = ap (λ (x : ℕ). segment_cells slide image.segments (wrap (x + slide))) same
-          ∙ loaded_cell slide (u.addr - is.home.vmaddr + offset) u.segment is.home image.segments (sound_apart image sound) is.found within;
-    }

@@ -1,8 +1,8 @@
 -- The words of all images of a set, each with its image: their edits are those of the cache, and no two share a byte.
-use Rattle.std.proofs.Common.{◌≡◌, ◌⊎◌, ℕ, Bool, true, false, not, Option, Some, List, [], ◌∷◌, ◌++◌, map, refl, sym, ap, ap₂, ◌∙◌, subst, arith, inl, inr}
+use Rattle.std.proofs.Common.{◌≡◌, ◌⊎◌, ℕ, false, Option, Some, List, [], ◌∷◌, ◌++◌, map, refl, sym, ap, ap₂, ◌∙◌, subst, arith, inl, inr}
 use Rattle.std.specs.Prelude.{slice_get, nat_le, filter}
 use Rattle.std.specs.List.{flat_map, enumerate_from}
-use Rattle.std.proofs.lemmas.Bool.{cases_Bool, cond-true, cond-false}
+use Rattle.std.proofs.lemmas.Bool.{cases_Bool, cond-true, cond-false, not-true}
 use Rattle.std.proofs.lemmas.List.{map-append}
 use Rattle.dsc_base.specs.declared.edits.Edit.{Edit}
 use Rattle.dsc_base.specs.Edits.{AllApart, IsAmong}
@@ -122,10 +122,6 @@ pub record IsReferred (set : ImageSet) (k : ℕ) (i : Img) (w : Word) : Type 0 w
   pub other : is_pointer reference.kind ≡ false
   pub is : w ≡ other_word k i reference
 
-not_true : (b : Bool) → not b ≡ true → b ≡ false
-not_true true is = absurd (cc)
-not_true false is = refl
-
 pub at_cases : (set : ImageSet) (k : ℕ) (i : Img) (w : Word) → IsIn (words_at set k i) w → IsPointer set k w ⊎ IsReferred set k i w
 at_cases set k i w there =
     elim (in_either (map pointer_word (ordered_pointers set k)) (map (other_word k i) (filter is_no_pointer (streams_at set k).references)) w there) [
@@ -135,7 +131,7 @@ at_cases set k i w there =
       | inr other ↦
           let r : IsOf (other_word k i) (filter is_no_pointer (streams_at set k).references) w = of_map (other_word k i) (filter is_no_pointer (streams_at set k).references) w other in
           let f = of_filter is_no_pointer (streams_at set k).references r.from r.there in
-          inr (record { reference = r.from; there = f.0; other = not_true (is_pointer r.from.kind) f.1; is = r.is })
+          inr (record { reference = r.from; there = f.0; other = not-true (is_pointer r.from.kind) f.1; is = r.is })
     ]
 
 abbrev words_by : ImageSet → ℕ → Option Img → List Word
@@ -179,7 +175,7 @@ at_word set k i w image there =
 
 -- ---- the words of a set
 
-images_are : (is : List Img) (k : ℕ) (i : Img) → slice_get is k ≡ Some i → slice_get (image_set is).images k ≡ Some i
+pub images_are : (is : List Img) (k : ℕ) (i : Img) → slice_get is k ≡ Some i → slice_get (image_set is).images k ≡ Some i
 unfolding image_set
 images_are is k i got = got
 

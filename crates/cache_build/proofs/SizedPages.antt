@@ -1,8 +1,8 @@
 -- The pages of the segments of sound images are whole, whatever headers stand in front that are as long as their own.
-use Rattle.std.proofs.Common.{◌≡◌, ◌≤◌, ℕ, zero, suc, ◌-◌, Option, List, [], drop, length, get_or, replicate, refl, sym, ap, ◌∙◌, subst, arith, length-append}
-use Rattle.std.proofs.lemmas.List.{length-drop, length-replicate}
+use Rattle.std.proofs.Common.{◌≡◌, ◌≤◌, ℕ, zero, suc, Option, List, [], drop, length, get_or, refl, sym, ap, ◌∙◌, subst, arith, length-append}
+use Rattle.std.proofs.lemmas.List.{length-drop}
 use Rattle.std.proofs.lemmas.Option.{slice_get_read}
-use Rattle.dsc_base.specs.Region.{paged, padded}
+use Rattle.dsc_base.specs.Region.{paged}
 use Rattle.dsc_base.specs.declared.fault.Span.{Span}
 use Rattle.macho_image.specs.Records.{Seg, Img}
 use Rattle.macho_image.specs.Breaks.{IsSound}
@@ -18,12 +18,10 @@ use Rattle.ref_rewrite.specs.Pages.{bytes_with, pages_of, pages_at, segment_page
 use Rattle.ref_rewrite.specs.Planned.{AreSized}
 use Rattle.ref_rewrite.proofs.HomeLaws.{bytes_fit, header_fits}
 use Rattle.cache_build.proofs.FitsLaws.{AreSound}
-
-padded_long : (size : ℕ) (bytes : List ℕ) → length bytes ≤ size → length (padded size bytes) ≡ size
-padded_long size bytes le = length-append bytes (replicate (size - length bytes) 0) ∙ omega (arith, le, length-replicate {A = ℕ} (size - length bytes) 0)
+use Rattle.ref_rewrite.proofs.PageLaws.{padded_long}
 
 -- the header in front leaves a segment as long as it is
-headed_long : (header : List ℕ) (g : ℕ) (s : Seg) → (g ≡ 0 → length header ≤ length s.bytes) → length (bytes_with header g s) ≡ length s.bytes
+pub headed_long : (header : List ℕ) (g : ℕ) (s : Seg) → (g ≡ 0 → length header ≤ length s.bytes) → length (bytes_with header g s) ≡ length s.bytes
 headed_long header zero s fits = length-append header (drop (length header) s.bytes) ∙ omega (arith, fits refl, length-drop (length header) s.bytes)
 headed_long header (suc g) s fits = refl
 

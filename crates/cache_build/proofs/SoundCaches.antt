@@ -1,5 +1,5 @@
 -- The cache of a set that breaks no rule is sound: it can be read back.
-use Rattle.std.proofs.Common.{◌≡◌, ◌≤◌, ℕ, ◌+◌, ◌*◌, ◌/◌, ◌%◌, None, List, length, take, drop, sym, ap, ap₂, ◌∙◌, arith}
+use Rattle.std.proofs.Common.{◌≡◌, ℕ, ◌+◌, ◌*◌, ◌/◌, ◌%◌, None, List, length, take, drop, ap, ap₂, ◌∙◌, arith}
 use Rattle.dsc_base.specs.Region.{paged}
 use Rattle.dsc_base.specs.declared.fault.Span.{Span}
 use Rattle.macho_image.specs.Records.{Img}
@@ -9,7 +9,7 @@ use Rattle.cache_layout.specs.Layouts.{Laid, layout_of}
 use Rattle.cache_layout.specs.Apart.{AreInTurn}
 use Rattle.cache_layout.proofs.RoomLaws.{paged-whole}
 use Rattle.slide_chain.specs.Chains.{Slide, chain_finding}
-use Rattle.slide_chain.specs.Info.{info_bytes, info_read, info_finding}
+use Rattle.slide_chain.specs.Info.{info_read, info_finding}
 use Rattle.slide_chain.specs.Making.{info_of}
 use Rattle.slide_chain.proofs.InfoLaws.{info-sound}
 use Rattle.slide_chain.proofs.LinkedLaws.{sound-linked_data}
@@ -18,7 +18,7 @@ use Rattle.ref_rewrite.specs.Rewritten.{edits_in}
 use Rattle.linkedit_merge.specs.Linkedit.{linkedit_size}
 use Rattle.cache_build.specs.Cache.{cache_of}
 use Rattle.cache_build.specs.Sound.{IsSoundCache}
-use Rattle.cache_build.proofs.BuildableSets.{IsBuildable, set_edits, set_chained, set_slide, set_shares, set_start, set_span, set_mapping}
+use Rattle.cache_build.proofs.BuildableSets.{IsBuildable, set_edits, set_chained, set_slide, set_shares, set_start, set_mapping}
 use Rattle.cache_build.proofs.CacheFacts.{HasEdits}
 use Rattle.cache_build.proofs.CacheHeads.{IsFramed, framed}
 use Rattle.cache_build.proofs.CacheParts.{length-mapping}

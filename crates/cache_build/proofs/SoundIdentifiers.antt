@@ -9,8 +9,9 @@ use Rattle.macho_image.specs.Macho.{number_of, is_uuid, commands_of, command_whe
 use Rattle.macho_image.specs.Rules.{least_size}
 use Rattle.macho_image.specs.Breaks.{IsSound}
 use Rattle.macho_image.proofs.CommandLaws.{IsWholeCommand, AreCommands, shape_joins}
-use Rattle.macho_edit.proofs.SoundLaws.{sound_rules, header_front}
 use Rattle.macho_edit.proofs.CopyLaws.{command_shape}
+use Rattle.macho_image.proofs.HeaderRules.{sound_rules}
+use Rattle.macho_image.proofs.WalkLaws.{sound_front}
 
 uuid_here : (c : List ℕ) → IsWholeCommand c → is_uuid (number_of c) ≡ true → length (take 16 (drop 8 c)) ≡ 16
 uuid_here c whole is =
@@ -28,6 +29,6 @@ uuid_long (c ∷ cs) whole = uuid_pick (is_uuid (number_of c)) c (command_where 
 pub identifier_long : (image : Img) → IsSound image → length image.uuid ≡ 16
 identifier_long image sound =
     let rules = sound_rules image sound in
-    let front : 32 ≤ length image.header = header_front image.header rules.magic in
+    let front : 32 ≤ length image.header = sound_front image sound in
     let commands : AreCommands (number_at 4 image.header 16) (drop 32 image.header) = shape_joins (number_at 4 image.header 16) 32 (drop 32 image.header) (command_shape image.header front rules.shape) in
     ap (λ (u : List ℕ). length u) sound.uuid ∙ uuid_long (commands_of image.header) commands.whole

@@ -1,7 +1,6 @@
 -- The images of the cache of a set that breaks no rule: nothing is wrong with them.
-use Rattle.std.proofs.Common.{◌≡◌, ◌≤◌, ◌<◌, ◌⊎◌, ℕ, zero, suc, ◌+◌, ◌-◌, min, max, Bool, true, false, not, ◌&&◌, ◌||◌, Option, Some, None, List, [], ◌∷◌, ◌++◌, take, length, map, get_or, refl, sym, ap, ap₂, ◌∙◌, subst, arith, inl, inr, if◌then◌else◌, nat_lt, nat_le, nat_eq}
+use Rattle.std.proofs.Common.{◌≡◌, ◌≤◌, ◌<◌, ◌⊎◌, ℕ, zero, suc, ◌+◌, ◌-◌, min, max, Bool, true, false, not, ◌&&◌, ◌||◌, Option, Some, None, List, [], ◌∷◌, ◌++◌, take, length, map, get_or, refl, sym, ap, ap₂, ◌∙◌, subst, arith, inl, inr, if◌then◌else◌, nat_lt, nat_eq}
 use Rattle.std.specs.Prelude.{option_map, slice_get, position}
-use Rattle.std.specs.Cmp.Lexicographic.{nat_list_eq_equiv}
 use Rattle.std.specs.List.{flat_map, list_any, range_with_len}
 use Rattle.std.specs.Option.{option_or}
 use Rattle.std.proofs.lemmas.Bool.{cases_Bool, cond-true, eq-eqb, le-leb}
@@ -10,67 +9,58 @@ use Rattle.std.proofs.lemmas.List.{length-map, length-take-le, get_or-map, get_o
 use Rattle.std.proofs.lemmas.List.FromFn.{length-range_with_len, get_or-range_with_len}
 use Rattle.std.proofs.lemmas.Option.{same_Some, slice_get-map, slice_get_within, slice_get_read, get_or_from_slice_get}
 use Rattle.dsc_base.specs.Refusals.{first_break, broken, in_image}
-use Rattle.dsc_base.specs.declared.fault.Break.{Break}
 use Rattle.dsc_base.specs.RuleNames.{number_of}
 use Rattle.dsc_base.specs.declared.rule.Rule.TheVariants.{DuplicateName, RebaseBadUleb}
 use Rattle.dsc_base.specs.Region.{region_start, paged}
 use Rattle.dsc_base.specs.declared.fault.Finding.{Finding}
 use Rattle.dsc_base.specs.declared.fault.Site.{Site}
-use Rattle.dsc_base.specs.declared.finding_kind.FindingKind.{FindingKind}
 use Rattle.dsc_base.specs.declared.finding_kind.FindingKind.TheVariants.{ImageBroken, NameDiffers, NameTwice, SegmentOutside, StreamBroken}
 use Rattle.macho_image.specs.Records.{Seg, Img}
 use Rattle.macho_image.specs.Breaks.{IsSound, image_break}
 use Rattle.macho_image.specs.Macho.{image_of, commands_of, command_where, is_dyld_info}
-use Rattle.macho_image.specs.Order.{addresses_of}
 use Rattle.macho_image.specs.Places.{above}
 use Rattle.macho_image.specs.Rules.{same_bytes, is_linkedit_segment, is_linkedit_name}
-use Rattle.macho_image.specs.TableRules.{table_break}
 use Rattle.macho_image.specs.declared.form.Form.TheVariants.{Cached}
 use Rattle.macho_image.specs.declared.place.Moved.{Moved}
-use Rattle.macho_image.proofs.Unbroken.{broken_none, image_at-some}
+use Rattle.macho_image.proofs.Unbroken.{broken_none, image_at-some, or_none}
 use Rattle.macho_edit.specs.MovedImage.{seated, seated_all, named_by, moved_image}
 use Rattle.macho_edit.specs.Placed.{places_of}
 use Rattle.macho_edit.specs.Segments.{place_for, linkedit_place, own_place}
 use Rattle.macho_edit.specs.declared.segment.SegmentPlace.{SegmentPlace}
 use Rattle.macho_edit.specs.declared.spots.LinkSpots.{LinkSpots}
-use Rattle.macho_edit.proofs.PlaceLaws.{place_other}
+use Rattle.macho_edit.proofs.PlaceLaws.{place_other, place_linkedit}
 use Rattle.cache_header.specs.declared.head.Mapping.{Mapping as Mapped}
 use Rattle.cache_header.specs.Findings.{finding}
-use Rattle.cache_header.specs.Reading.{head_read, images_of, image_at, image_count, image_path, image_address, mappings_of}
+use Rattle.cache_header.specs.Reading.{head_read, images_of, image_at, image_count, image_address, mappings_of}
 use Rattle.cache_header.specs.Records.{Entry}
 use Rattle.cache_layout.specs.declared.mapping.Mapping.{Mapping}
 use Rattle.cache_layout.specs.declared.mapping.Mapping.TheVariants.{Text, Writable, Fixed}
 use Rattle.cache_layout.specs.Places.{mapping_of}
 use Rattle.cache_layout.specs.Layouts.{Laid, layout_of}
 use Rattle.cache_layout.specs.Apart.{IsSegment, IsWithin, AreInTurn, move_at, range_in}
-use Rattle.cache_layout.proofs.PlaceLaws.{length-moves-of, are_within, are_apart}
+use Rattle.cache_layout.proofs.PlaceLaws.{are_within, are_apart}
 use Rattle.cache_layout.proofs.RoomLaws.{paged-covers}
 use Rattle.cache_layout.proofs.SoundLaws.{sound_protection}
 use Rattle.dep_closure.specs.Breaks.{image_break as link_image_break, break_from, link_break}
 use Rattle.dep_closure.specs.Dependencies.{image_named}
 use Rattle.dep_closure.proofs.PositionLaws.{position-cons}
-use Rattle.bind_ops.specs.Binds.{binds_of, bind_break}
-use Rattle.bind_ops.specs.Binds as binds
-use Rattle.bind_ops.specs.Clash.{clash_break}
 use Rattle.bind_ops.specs.Weak.{weak_break}
-use Rattle.bind_ops.specs.declared.kind.StreamKind.TheVariants.{Bind, Lazy}
-use Rattle.export_trie.specs.Order.{trie_break}
 use Rattle.load_model.specs.Mapped.{flat, cached_image, three_mappings}
 use Rattle.nlist_table.proofs.ListLaws.{none_pass}
 use Rattle.prebind.specs.Sets.{image_set}
 use Rattle.prebind.proofs.ImageLaws.{has_at}
-use Rattle.cache_check.specs.Images.{each_of, rule_finding, header_place, image_in, images_of as images_in, broken_finding, name_finding, twice_finding, is_within, is_placed, shares, is_misplaced, segments_of, segment_finding, linkedit_break, stream_finding, images_finding}
+use Rattle.cache_check.specs.Images.{each_of, rule_finding, header_place, image_in, broken_finding, name_finding, twice_finding, is_within, is_placed, shares, is_misplaced, segments_of, segment_finding, linkedit_break, stream_finding, images_finding}
 use Rattle.cache_check.specs.Views.{view_of}
 use Rattle.cache_build.specs.Cache.{cache_of}
-use Rattle.cache_build.proofs.BuildableSets.{IsBuildable, set_slide, set_shares, set_start, set_span, slid_of}
-use Rattle.cache_build.proofs.CacheFacts.{HasEdits, IsCache, moved_in}
+use Rattle.cache_build.proofs.BuildableSets.{set_slide, set_start, set_span, slid_of}
+use Rattle.cache_build.proofs.CacheFacts.{moved_in}
 use Rattle.cache_build.proofs.CacheHeads.{IsFramed, framed}
 use Rattle.cache_build.proofs.CachedHeaders.{image_found}
-use Rattle.cache_build.proofs.KeptStreams.{KeepsBinds, keeps_binds}
+use Rattle.cache_build.proofs.KeptStreams.{keeps_binds}
 use Rattle.cache_build.proofs.KeptTables.{tables_kept}
 use Rattle.cache_build.proofs.MappedWords.{IsCachedSet}
 use Rattle.cache_build.proofs.MovedExports.{trie_accepted}
-use Rattle.cache_build.proofs.MovedSpots.{IsSpotted, own_moves, own_spots, own_spotted}
+use Rattle.cache_build.proofs.MovedSpots.{own_moves, own_spots, own_spotted}
 use Rattle.cache_build.proofs.PlacedImages.{IsHeld, held_at, there_at, move_is, start_behind}
 use Rattle.cache_build.proofs.ToldCaches.{rest_of, mappings_is}
 
@@ -128,10 +118,6 @@ moved_seated : (image : Img) (moves : List Moved) (spots : LinkSpots) (b : List 
 unfolding moved_image
 moved_seated image moves spots b g t found = seated_at b spots moves image.segments g t found
 
-linkedit_goes : (spots : LinkSpots) (m : Moved) (name : List ℕ) (vmsize : ℕ) → is_linkedit_name name ≡ true → place_for spots m name vmsize ≡ linkedit_place spots
-unfolding place_for
-linkedit_goes spots m name vmsize is = cond-true (is_linkedit_name name) (linkedit_place spots) (own_place m vmsize) is
-
 -- one place is behind another one
 apart_none : (a b c d : ℕ) → (a + b ≤ c) ⊎ (c + d ≤ a) → nat_lt (max a c) (min (a + b) (c + d)) ≡ false
 apart_none a b c d (inl before) = let low : min (a + b) (c + d) ≤ max a c = omega (arith, before) in grind (arith, nat_tests)
@@ -163,7 +149,7 @@ module _ (bits : ℕ) (is : List Img) (set : IsCachedSet bits is) where
       let name : t.name ≡ s.own.name = ap (λ (x : Seg). x.name) s.is in
       elim (cases_Bool (is_linkedit_name s.own.name)) [
         | inl is_linkedit ↦
-            let place : place_for (own_spots bits is k) s.move s.own.name s.own.vmsize ≡ linkedit_place (own_spots bits is k) = linkedit_goes (own_spots bits is k) s.move s.own.name s.own.vmsize is_linkedit in
+            let place : place_for (own_spots bits is k) s.move s.own.name s.own.vmsize ≡ linkedit_place (own_spots bits is k) = place_linkedit (own_spots bits is k) s.move s.own.name s.own.vmsize is_linkedit in
             inl (record {
               named = ap (λ (n : List ℕ). is_linkedit_name n) name ∙ is_linkedit;
               address = ap (λ (x : Seg). x.vmaddr) s.is ∙ (ap (λ (p : SegmentPlace). p.address) place ∙ (own_spotted bits is k i lt at).address);
@@ -360,30 +346,18 @@ module _ (bits : ℕ) (is : List Img) (set : IsCachedSet bits is) where
   unlinked : (images : List Img) (n : ℕ) (xs : List Img) → break_from images n xs ≡ None → (k : ℕ) (i : Img) → slice_get xs k ≡ Some i → image_named (take (n + k) images) i.install_name ≡ None
   unlinked images n [] none k i found = absurd (cc)
   unlinked images n (x ∷ xs) none zero i found =
-      let first = both (option_map (in_image n) (link_image_break images n x)) (break_from images (n + 1) xs) none in
+      let first = or_none (option_map (in_image n) (link_image_break images n x)) (break_from images (n + 1) xs) none in
       let own : link_image_break images n x ≡ None = unmapped n (link_image_break images n x) first.0 in
-      let name = neither (broken DuplicateName (image_named (take n images) x.install_name)) _ own in
+      let name = or_none (broken DuplicateName (image_named (take n images) x.install_name)) _ own in
       let here : x ≡ i = same_Some x i found in
       ap₂ (λ (m : ℕ) (j : Img). image_named (take m images) j.install_name) (let e : n + 0 ≡ n = omega arith in e) (sym here) ∙ broken_none DuplicateName (image_named (take n images) x.install_name) name.0
     where
-      both : (a b : Option Break) → option_or a b ≡ None → (a ≡ None) × (b ≡ None)
-      both None b none = (refl, none)
-      both (Some x) b none = absurd (cc)
-
       unmapped : (n : ℕ) (o : Option Site) → option_map (in_image n) o ≡ None → o ≡ None
       unmapped n None none = refl
       unmapped n (Some s) none = absurd (cc)
-
-      neither : (a b : Option Site) → option_or a b ≡ None → (a ≡ None) × (b ≡ None)
-      neither None b none = (refl, none)
-      neither (Some x) b none = absurd (cc)
   unlinked images n (x ∷ xs) none (suc k) i found =
-      let rest = both (option_map (in_image n) (link_image_break images n x)) (break_from images (n + 1) xs) none in
-      ap (λ (m : ℕ). image_named (take m images) i.install_name) (let e : n + suc k ≡ (n + 1) + k = omega arith in e) ∙ unlinked images (n + 1) xs rest k i found
-    where
-      both : (a b : Option Break) → option_or a b ≡ None → b ≡ None
-      both None b none = none
-      both (Some x) b none = absurd (cc)
+      let rest = or_none (option_map (in_image n) (link_image_break images n x)) (break_from images (n + 1) xs) none in
+      ap (λ (m : ℕ). image_named (take m images) i.install_name) (let e : n + suc k ≡ (n + 1) + k = omega arith in e) ∙ unlinked images (n + 1) xs rest.1 k i found
 
   linked : link_break is ≡ None
   unfolding image_set

@@ -4,9 +4,6 @@ use Rattle.std.specs.Prelude.{slice_get, nat_eq, position, option_map, ℤ}
 use Rattle.std.specs.Cmp.Lexicographic.{pointwise}
 use Rattle.std.proofs.lemmas.Bool.{cases_Bool, cond-true, cond-false}
 use Rattle.std.proofs.lemmas.Option.{same_Some, slice_get-get_or, get_or_from_slice_get}
-use Rattle.dsc_base.specs.Refusals.{broken, in_image}
-use Rattle.dsc_base.specs.declared.fault.Break.{Break}
-use Rattle.dsc_base.specs.declared.rule.Rule.TheVariants.{ExportOutside}
 use Rattle.macho_image.specs.Records.{Seg, Img}
 use Rattle.macho_image.specs.Rules.{is_linkedit_segment}
 use Rattle.macho_image.specs.Breaks.{IsSound}
@@ -32,7 +29,7 @@ use Rattle.prebind.specs.declared.resolved.Resolved.TheVariants as outcomes
 use Rattle.prebind.specs.declared.resolved.WordTarget.{WordTarget}
 use Rattle.prebind.specs.declared.resolved.WordTarget.TheVariants.{Place, Constant}
 use Rattle.prebind.specs.Sets.{StreamLists, ImageSet}
-use Rattle.prebind.specs.Places.{address_of_export, exports_in, is_linkedit_at, is_stray, strays, export_break}
+use Rattle.prebind.specs.Places.{address_of_export, exports_in, is_linkedit_at, is_stray, strays}
 use Rattle.prebind.specs.Agree.{HaveExportsInside}
 use Rattle.prebind.specs.Resolves.{Pair, is_met, Step, Ends, Reexports, first_exporting, place_of, found_step, dependency_step, step, next_name, after_step, resolves_after, export_count, resolves}
 use Rattle.prebind.specs.Targets.{bound_target, outcome_of, pointer_at, value_place, rebase_target}
@@ -47,6 +44,7 @@ use Rattle.macho_image.proofs.HeaderLaws.{text_position}
 use Rattle.ref_rewrite.proofs.HomeLaws.{two_segments, section_owned}
 use Rattle.cache_layout.proofs.SoundLaws.{sound_linkedit}
 use Rattle.cache_build.proofs.RebaseTargets.{IsRecorded, recorded}
+use Rattle.prebind.proofs.SameLaws.{none_strays}
 
 -- segment g of image k is one other than `__LINKEDIT`
 pub record IsOwn (images : List Img) (k g : ℕ) : Type 0 where
@@ -109,14 +107,6 @@ named_in (e ∷ es) name t is = elim (cases_Bool (pointwise nat_eq name e.name))
       let rest : IsNamed es t = named_in es name t (sym (cond-false (pointwise nat_eq name e.name) (Some e.target) (target_named es name) other) ∙ is) in
       record { export = rest.export; there = in_rest e es rest.export rest.there; is = rest.is }
 ]
-
-none_strays : (set : ImageSet) (k : ℕ) → export_break set k ≡ None → position (λ (e : Export). strays (segments_at set.images k) e.target) (get_or (exports_in set.streams) k []) ≡ None
-unfolding export_break
-none_strays set k none = unbroken k (position (λ (e : Export). strays (segments_at set.images k) e.target) (get_or (exports_in set.streams) k [])) none
-  where
-    unbroken : (k : ℕ) (o : Option ℕ) → option_map (in_image k) (broken ExportOutside o) ≡ None → o ≡ None
-    unbroken k None is = refl
-    unbroken k (Some n) is = absurd (let e : ◌≡◌ {A = Option Break} (Some (record { rule = ExportOutside; image = k; at = n })) None = is in cc)
 
 placed_own : (images : List Img) (k address : ℕ) (o : Option Inside) → is_stray (segments_at images k) o ≡ false → EndsInOwn images (place_of k address o)
 placed_own images k address None stays = absurd (cc)

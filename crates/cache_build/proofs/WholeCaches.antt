@@ -23,7 +23,7 @@ use Rattle.prebind.specs.Words.{streams_at, ordered_pointers}
 use Rattle.prebind.proofs.OrderedWords.{placed_pointers}
 use Rattle.ref_rewrite.specs.Moving.{edit_of}
 use Rattle.ref_rewrite.specs.Plans.{Plan}
-use Rattle.ref_rewrite.specs.Planned.{AreAllPlaced, words_with, chained_words, plan_of, plan_in, plans_of, with_headers}
+use Rattle.ref_rewrite.specs.Planned.{words_with, chained_words, plan_of, plan_in, plans_of, with_headers}
 use Rattle.ref_rewrite.specs.Rewritten.{edits_in, joined}
 use Rattle.ref_rewrite.specs.Pages.{all_pages, part_of, all_edits}
 use Rattle.linkedit_merge.specs.Shares.{Share}
@@ -34,6 +34,8 @@ use Rattle.cache_build.specs.Places.{slide_bytes, shares_in, frame_of}
 use Rattle.cache_build.specs.Head.{head_of}
 use Rattle.cache_build.specs.Cache.{headers_of, edited, tail_of, cache_with, cache_by, cache_from}
 use Rattle.cache_build.specs.Filling.{segments_of, filled}
+use Rattle.prebind.specs.Placed.{AreListsPlaced}
+use Rattle.prebind.proofs.PlacedLists.{placed_at}
 
 -- ---- what plans have together
 
@@ -44,16 +46,16 @@ joined_from {X} f made h n (i ∷ is) same =
     ap₂ (λ (a b : List X). a ++ b) (same n i (omega arith) (omega arith)) (joined_from f made h (n + 1) is (λ k j from lt. same k j (omega (arith, from)) (omega (arith, lt))))
 
 -- the words that are placed are those in the order of their addresses
-placed_is : (set : ImageSet) (placed : List (List PlacedWord)) → AreAllPlaced set placed → (k : ℕ) → k < length set.images → slice_index_or placed k [] ≡ ordered_pointers set k
-placed_is set placed are k lt = placed_pointers set k (slice_index_or placed k []) (are.each k lt)
+placed_is : (set : ImageSet) (placed : List (List PlacedWord)) → AreListsPlaced set placed → (k : ℕ) → k < length set.images → slice_index_or placed k [] ≡ ordered_pointers set k
+placed_is set placed are k lt = placed_pointers set k (slice_index_or placed k []) (placed_at set placed are k lt)
 
-pub edits_are : (l : Laid) (set : ImageSet) (placed : List (List PlacedWord)) → AreAllPlaced set placed → all_edits (plans_of l set placed) ≡ edits_of l set
+pub edits_are : (l : Laid) (set : ImageSet) (placed : List (List PlacedWord)) → AreListsPlaced set placed → all_edits (plans_of l set placed) ≡ edits_of l set
 unfolding plans_of plan_of edits_of
 edits_are l set placed are =
     joined_from (λ (p : Plan). p.edits) (plan_in l set placed) (image_edits l set) 0 set.images
     (λ k i from lt. ap (λ (ws : List PlacedWord). map (edit_of l k i.segments) (words_with k i (streams_at set k) ws)) (placed_is set placed are k (omega (arith, lt))))
 
-pub chained_are : (l : Laid) (set : ImageSet) (placed : List (List PlacedWord)) → AreAllPlaced set placed → flat_map (λ (p : Plan). p.words) (plans_of l set placed) ≡ chained_of l set
+pub chained_are : (l : Laid) (set : ImageSet) (placed : List (List PlacedWord)) → AreListsPlaced set placed → flat_map (λ (p : Plan). p.words) (plans_of l set placed) ≡ chained_of l set
 unfolding plans_of plan_of chained_of
 chained_are l set placed are =
     joined_from (λ (p : Plan). p.words) (plan_in l set placed) (image_chained l set) 0 set.images

@@ -33,7 +33,8 @@ use Rattle.load_model.proofs.RuledWords.{position_none, unbroken_each}
 use Rattle.load_model.proofs.WordCases.{IsIn, in_map}
 use Rattle.cache_build.proofs.ImageWords.{IsReadSet, IsOne, pointer_cases, word_kinds, image_words}
 use Rattle.cache_build.proofs.Memberships.{in_enumerated}
-use Rattle.cache_build.proofs.RebaseTargets.{LeadsInto, rebase_leads, or_false, not_below}
+use Rattle.cache_build.proofs.RebaseTargets.{LeadsInto, rebase_leads}
+use Rattle.std.proofs.lemmas.Bool.{or_parts, ltb-false}
 
 -- ---- a bound word leads into the cache, if it leads to a place
 
@@ -68,9 +69,9 @@ unfolding number_to counted_to cut_to
 high_bound l location header (Constant c) low leads beyond = absurd (cc)
 high_bound l location header (Place k g distance) low leads beyond =
     let n : ℕ = wrap ((move_at l k g).address + distance) in
-    let two = or_false (nat_lt n region_start) (nat_lt (region_start + (l.fixed.at + l.fixed.len)) n) beyond in
-    let end : n ≤ region_start + (l.fixed.at + l.fixed.len) = not_below (region_start + (l.fixed.at + l.fixed.len)) n two.1 in
-    record { from = not_below n region_start two.0; to = omega (arith, end, low) }
+    let two = or_parts (nat_lt n region_start) (nat_lt (region_start + (l.fixed.at + l.fixed.len)) n) beyond in
+    let end : n ≤ region_start + (l.fixed.at + l.fixed.len) = ltb-false (region_start + (l.fixed.at + l.fixed.len)) n two.1 in
+    record { from = ltb-false n region_start two.0; to = omega (arith, end, low) }
 
 place_number : (l : Laid) (location header k g d : ℕ) → number_to (new_starts l) location header Pointer64 (Place k g d) ≡ wrap ((move_at l k g).address + d)
 unfolding number_to counted_to cut_to

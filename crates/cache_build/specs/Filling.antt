@@ -16,7 +16,7 @@ use Rattle.cache_layout.specs.Layouts.{Laid}
 use Rattle.cache_layout.specs.Parts.{mapping_part}
 use Rattle.ref_rewrite.specs.Breaks.{rewrite_break}
 use Rattle.ref_rewrite.specs.Pages.{all_pages}
-use Rattle.ref_rewrite.specs.Planned.{AreSplitRead, IsLayout, AreAllPlaced, AreSized}
+use Rattle.ref_rewrite.specs.Planned.{AreSplitRead, IsLayout, AreSized}
 use Rattle.ref_rewrite.specs.Plans.{Plan, Fit}
 use Rattle.ref_rewrite.specs.Rewritten.{edits_in, joined}
 use Rattle.linkedit_merge.specs.Conditions.{HaveTables}
@@ -27,6 +27,7 @@ use Rattle.cache_build.specs.Cache.{no_spots, tail_of}
 use Rattle.cache_build.specs.Edits.{edits_of, chained_of}
 use Rattle.cache_build.specs.Fits.{Fits}
 use Rattle.cache_build.specs.Places.{slide_bytes, shares_in}
+use Rattle.prebind.specs.Placed.{AreListsPlaced}
 
 -- the segments of all mappings, by the plans of the images, with the words at these places of the data linked
 abbrev pub segments_of : List Plan → Slide → List ℕ → List ℕ
@@ -75,7 +76,7 @@ pub record IsPrepared (set : ImageSet) (tables : List Tabs) (placed : List (List
   pub tables_are : tables ≡ map tables_of set.images
   pub have_tables : HaveTables set.images tables
   pub layout : IsLayout l set.images
-  pub placed_all : AreAllPlaced set placed
+  pub placed_all : AreListsPlaced set placed
   pub few : length set.images ≤ 4096
   pub fits : All Fits set.images
   pub identified : All (λ (i : Img). length i.uuid ≡ 16) set.images

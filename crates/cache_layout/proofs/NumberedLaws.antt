@@ -63,11 +63,3 @@ sum-pages f (x ∷ xs) whole = omega (arith, sum_by-cons f x xs, whole x, sum-pa
 flat-push : {X : Type 0} (f : X → List ℕ) (xs : List X) (x : X) → flat_map f (xs ++ x ∷ []) ≡ flat_map f xs ++ f x
 flat-push f [] x = append-nil (f x)
 flat-push {X} f (y ∷ ys) x = ap (λ (l : List ℕ). f y ++ l) (flat-push f ys x) ∙ sym (append_assoc (f y) (flat_map f ys) (f x))
-
-pub joined-step : {X : Type 0} (h : ℕ → X → List ℕ) (xs : List X) (n : ℕ) (x : X) → n < length xs → x ≡ get_or xs n x
-    → flat_map (λ p. h p.0 p.1) (enumerate_from 0 (take (n + 1) xs)) ≡ flat_map (λ p. h p.0 p.1) (enumerate_from 0 (take n xs)) ++ h n x
-joined-step {X} h xs n x lt is =
-    let long : 0 + length (take n xs) ≡ n = omega (arith, length-take-le n xs (omega arith)) in
-    ap (λ (l : List X). flat_map (λ p. h p.0 p.1) (enumerate_from 0 l)) (take-step xs n x lt is)
-    ∙ (ap (λ (l : List (ℕ × X)). flat_map (λ p. h p.0 p.1) l) (enumerate_from-push 0 (take n xs) x ∙ ap (λ (k : ℕ). enumerate_from 0 (take n xs) ++ (k, x) ∷ []) long)
-    ∙ flat-push (λ (p : ℕ × X). h p.0 p.1) (enumerate_from 0 (take n xs)) (n, x))

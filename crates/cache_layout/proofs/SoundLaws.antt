@@ -1,69 +1,25 @@
 -- What the rules on an image's header say of its name and its segments: the name is short, each segment has one of three protections, and `__LINKEDIT` is the last segment.
-use Rattle.std.proofs.Common.{◌≡◌, ◌≤◌, ◌<◌, ◌⊎◌, ℕ, zero, suc, ◌+◌, ◌%◌, ◌/◌, Bool, true, false, not, ◌&&◌, ◌||◌, cond, List, [], ◌∷◌, ◌++◌, length, map, get_or, refl, sym, ap, ◌∙◌, subst, arith, if◌then◌else◌, nat_lt, nat_le, nat_eq, inl, inr, Option, Some, None, option_map}
-use Rattle.std.specs.Prelude.{find, codes}
-use Rattle.std.specs.Cmp.Lexicographic.{same_text}
+use Rattle.std.proofs.Common.{◌≡◌, ◌≤◌, ◌<◌, ◌⊎◌, ℕ, zero, suc, ◌+◌, ◌%◌, ◌/◌, Bool, true, false, not, ◌&&◌, ◌||◌, cond, List, [], ◌∷◌, length, map, get_or, refl, sym, ap, ◌∙◌, subst, arith, if◌then◌else◌, nat_lt, nat_le, nat_eq, inl, inr, Option, Some, None, option_map}
+use Rattle.std.specs.Prelude.{find}
 use Rattle.std.proofs.lemmas.List.{get_or_default, length-map}
 use Rattle.std.proofs.Math.ListN.{get_or-map}
-use Rattle.std.proofs.lemmas.Bool.{false≢true}
+use Rattle.std.proofs.lemmas.Bool.{false≢true, and_parts, or_parts}
 use Rattle.std.proofs.lemmas.Bool.Decides.{nat_tests}
 use Rattle.dsc_base.specs.Numbers.{number_at}
-use Rattle.dsc_base.specs.declared.rule.Rule.TheVariants.{SegmentShape, SegmentProt, NameText}
 use Rattle.macho_image.specs.Records.{Seg, Img, Load, SegmentLoad}
 use Rattle.macho_image.specs.Macho.{header_size, commands_of, loads_of, pieces_of, number_of, segment_loads, segment_with, command_where, install_name_of, is_install_name, is_dylib, dylib_name}
-use Rattle.macho_image.specs.Rules.{is_well_shaped, first_crossing, is_linkedit_segment, is_linkedit_name, is_linkedit, is_text, is_good_text, is_good_linkedit, has_reserved_name, misplaced_behind, misplaced, first_segment, breaks_segment_shape, breaks_segment_prot, breaks_name_text, is_plain_name}
+use Rattle.macho_image.specs.Rules.{is_linkedit_segment, is_linkedit, is_text, is_good_text, is_good_linkedit, has_reserved_name, misplaced_behind, misplaced, breaks_segment_prot, breaks_name_text, is_plain_name, breaks_no_install_name}
 use Rattle.dsc_base.proofs.TextLaws.{IsPlain, plain_is}
-use Rattle.dsc_base.specs.Refusals.{least}
-use Rattle.macho_image.specs.Breaks.{header_break, section_break, name_break, unread, IsSound}
+use Rattle.macho_image.specs.Breaks.{unread, IsSound}
 use Rattle.macho_image.proofs.Images.{pieces_of-loads_from}
-use Rattle.macho_image.proofs.Unbroken.{or_none, broken_none, least_none_both}
+use Rattle.macho_image.proofs.Unbroken.{when_true, when_false, find_none}
 use Rattle.cache_layout.specs.declared.mapping.Mapping.{Mapping}
 use Rattle.cache_layout.specs.declared.mapping.Mapping.TheVariants.{Text, Writable, Fixed}
 use Rattle.cache_layout.specs.Places.{mapping_of}
-
--- some of the rules that a sound image's header keeps
-pub record KeepsRules (header : List ℕ) : Type 0 where
-  pub shape : breaks_segment_shape (header_size header) (segment_loads (loads_of header)) ≡ None
-  pub protections : breaks_segment_prot (segment_loads (loads_of header)) ≡ None
-  pub names : breaks_name_text (loads_of header) ≡ None
-
-section_rules : (size : ℕ) (ss : List SegmentLoad) (ls : List Load) → section_break size ss ls ≡ None → breaks_segment_prot ss ≡ None
-unfolding section_break
-section_rules size ss ls none = broken_none SegmentProt _ (or_none _ _ none).0
-
-name_rules : (ls : List Load) → name_break ls ≡ None → breaks_name_text ls ≡ None
-unfolding name_break
-name_rules ls none = broken_none NameText _ (or_none _ _ none).0
-
-pub sound_rules : (image : Img) → IsSound image → KeepsRules image.header
-unfolding header_break
-sound_rules image sound =
-    let kinds = or_none _ _ sound.unbroken in
-    let commands = or_none _ _ kinds.1 in
-    let shapes = or_none _ _ commands.1 in
-    let sections = or_none _ _ shapes.1 in
-    let names = or_none _ _ sections.1 in
-    record {
-      shape = broken_none SegmentShape _ shapes.0;
-      protections = section_rules (header_size image.header) (segment_loads (loads_of image.header)) (loads_of image.header) sections.0;
-      names = name_rules (loads_of image.header) names.0;
-    }
-
-pub both : (a b : Bool) → (a && b) ≡ true → (a ≡ true) × (b ≡ true)
-both true b e = (refl, e)
-both false b e = absurd (cc)
-
-refused : (b : Bool) (at : ℕ) (o : Option ℕ) → (if b then Some at else o) ≡ None → (b ≡ false) × (o ≡ None)
-refused true at o e = absurd (cc)
-refused false at o e = (refl, e)
-
--- the rule on the segments' shape, one by one
-pub shape_parts : (size : ℕ) (ls : List SegmentLoad) → breaks_segment_shape size ls ≡ None
-    → (nat_lt (length ls) 2 ≡ false) × (first_segment (λ l. not (is_well_shaped l)) ls ≡ None) × (first_crossing [] ls ≡ None) × (misplaced size ls ≡ None)
-shape_parts size ls none =
-    let one = refused (nat_lt (length ls) 2) 0 (least (first_segment (λ l. not (is_well_shaped l)) ls) (least (first_crossing [] ls) (misplaced size ls))) none in
-    let two = least_none_both (first_segment (λ l. not (is_well_shaped l)) ls) (least (first_crossing [] ls) (misplaced size ls)) one.1 in
-    let three = least_none_both (first_crossing [] ls) (misplaced size ls) two.1 in
-    (one.0, two.0, three.0, three.1)
+use Rattle.macho_image.proofs.HeaderRules.{sound_rules, shape_parts, text_no_linkedit}
+use Rattle.macho_image.proofs.SoundSegments.{loads_length}
+use Rattle.std.specs.List.{list_any}
+use Rattle.dsc_base.specs.Texts.{is_plain_text}
 
 -- the install name
 
@@ -76,45 +32,54 @@ plain_of true b true e is = refl
 plain_of true b false e is = absurd (cc)
 plain_of false b p e is = absurd (cc)
 
-plain-short : (c : List ℕ) → is_plain_name c ≡ true → length (dylib_name c) ≤ 1024
-plain-short c plain =
-    let one = both (nat_le 24 (number_at 4 c 8)) _ plain in
-    let two = both (nat_lt (number_at 4 c 8 + length (dylib_name c)) (length c)) _ one.1 in
-    let is : IsPlain (dylib_name c) = plain_is (dylib_name c) two.1 in
-    is.short
+plain_path : (c : List ℕ) → is_plain_name c ≡ true → is_plain_text (dylib_name c) ≡ true
+plain_path c plain =
+    let one = and_parts (nat_le 24 (number_at 4 c 8)) _ plain in
+    (and_parts (nat_lt (number_at 4 c 8 + length (dylib_name c)) (length c)) _ one.1).1
 
-name_found : (b : Bool) (l : Load) (o : Option (List ℕ)) → (b ≡ true → length (dylib_name l.bytes) ≤ 1024) → length (install_name_of o) ≤ 1024 → length (install_name_of (cond b (Some l.bytes) o)) ≤ 1024
-name_found true l o here later = here refl
-name_found false l o here later = later
+name_found : (b : Bool) (c : List ℕ) (o : Option (List ℕ)) → (b ≡ true → is_plain_text (dylib_name c) ≡ true) → (b ≡ false → is_plain_text (install_name_of o) ≡ true) → is_plain_text (install_name_of (cond b (Some c) o)) ≡ true
+name_found true c o here later = here refl
+name_found false c o here later = later refl
 
-names_short : (ls : List Load) → breaks_name_text ls ≡ None → length (install_name_of (command_where is_install_name (pieces_of ls))) ≤ 1024
-names_short [] none = omega arith
-names_short (l ∷ ls) none =
+rest_has : (a b : Bool) → (a || b) ≡ true → a ≡ false → b ≡ true
+rest_has true b has isnt = absurd (cc)
+rest_has false b has isnt = has
+
+names_plain : (ls : List Load) → breaks_name_text ls ≡ None → list_any (λ (l : Load). is_install_name (number_of l.bytes)) ls ≡ true → is_plain_text (install_name_of (command_where is_install_name (pieces_of ls))) ≡ true
+names_plain [] none some = absurd (cc)
+names_plain (l ∷ ls) none some =
     let parts = found_none (is_dylib (number_of l.bytes) && not (is_plain_name l.bytes)) l (find (λ (k : Load). is_dylib (number_of k.bytes) && not (is_plain_name k.bytes)) ls) none in
-    name_found (is_install_name (number_of l.bytes)) l (command_where is_install_name (pieces_of ls))
-    (λ is. plain-short l.bytes (plain_of (is_install_name (number_of l.bytes)) _ (is_plain_name l.bytes) parts.0 is))
-    (names_short ls parts.1)
+    name_found (is_install_name (number_of l.bytes)) l.bytes (command_where is_install_name (pieces_of ls))
+    (λ is. plain_path l.bytes (plain_of (is_install_name (number_of l.bytes)) _ (is_plain_name l.bytes) parts.0 is))
+    (λ isnt. names_plain ls parts.1 (rest_has (is_install_name (number_of l.bytes)) (list_any (λ (k : Load). is_install_name (number_of k.bytes)) ls) some isnt))
 
--- an image's name has at most 1,024 bytes
+has_name : (ls : List Load) → breaks_no_install_name ls ≡ None → list_any (λ (l : Load). is_install_name (number_of l.bytes)) ls ≡ true
+has_name ls none = (when_true (list_any (λ (l : Load). is_install_name (number_of l.bytes)) ls) 0 None none).0
+
+-- an image's name is plain text
+pub sound_path : (image : Img) → IsSound image → is_plain_text image.install_name ≡ true
+sound_path image sound =
+    let rules = sound_rules image sound in
+    ap is_plain_text (sound.install_name ∙ ap (λ (cs : List (List ℕ)). install_name_of (command_where is_install_name cs)) (sym (pieces_of-loads_from 32 (commands_of image.header))))
+    ∙ names_plain (loads_of image.header) rules.names (has_name (loads_of image.header) rules.named)
+
+-- of at most 1,024 bytes
 pub sound_name : (image : Img) → IsSound image → length image.install_name ≤ 1024
 sound_name image sound =
-    let named = sound.install_name ∙ ap (λ (cs : List (List ℕ)). install_name_of (command_where is_install_name cs)) (sym (pieces_of-loads_from 32 (commands_of image.header))) in
-    omega (arith, ap (λ (n : List ℕ). length n) named, names_short (loads_of image.header) (sound_rules image sound).names)
+    let is : IsPlain image.install_name = plain_is image.install_name (sound_path image sound) in
+    is.short
 
 -- the segments are those of the header
 
 no_load : SegmentLoad
 no_load = record { at = 0; size = 0; name = []; vmaddr = 0; vmsize = 0; fileoff = 0; filesize = 0; maxprot = 0; initprot = 0; nsects = 0; flags = 0; sections = [] }
 
-loads-long : (ss : List Seg) (ls : List SegmentLoad) → map unread ss ≡ map (segment_with []) ls → length ss ≡ length ls
-loads-long ss ls same = sym (length-map ss unread) ∙ (ap (λ (ts : List Seg). length ts) same ∙ length-map ls (segment_with []))
-
 -- a segment and its command
 pub load-of : (ss : List Seg) (ls : List SegmentLoad) → map unread ss ≡ map (segment_with []) ls → (g : ℕ) (s : Seg) → g < length ss → s ≡ get_or ss g s
     → (l : SegmentLoad) × (g < length ls) × (l ≡ get_or ls g l) × (unread s ≡ segment_with [] l)
 load-of ss ls same g s lt is =
     let l : SegmentLoad = get_or ls g no_load in
-    let long : length ss ≡ length ls = loads-long ss ls same in
+    let long : length ss ≡ length ls = loads_length ss ls same in
     let within : g < length (map (segment_with []) ls) = omega (arith, long, length-map ls (segment_with [])) in (
       l,
       omega (arith, long),
@@ -124,10 +89,6 @@ load-of ss ls same g s lt is =
     )
 
 -- a segment's protection
-
-pub segment_none : (b : Bool) (s : SegmentLoad) (o : Option SegmentLoad) → option_map (λ (t : SegmentLoad). t.at) (cond b (Some s) o) ≡ None → (b ≡ false) × (option_map (λ (t : SegmentLoad). t.at) o ≡ None)
-segment_none true s o e = absurd (cc)
-segment_none false s o e = (refl, e)
 
 abbrev IsProtection : ℕ → Type 0
 IsProtection p = (p ≡ 5) ⊎ ((p ≡ 3) ⊎ (p ≡ 1))
@@ -144,10 +105,10 @@ protection_of p b e = picked (nat_eq p 5) (nat_eq p 3) (nat_eq p 1) b e (λ t. g
 protections_of : (ls : List SegmentLoad) → breaks_segment_prot ls ≡ None → (g : ℕ) (l : SegmentLoad) → g < length ls → l ≡ get_or ls g l → IsProtection l.initprot
 protections_of [] none g l lt is = absurd (omega arith)
 protections_of (t ∷ ts) none zero l lt is =
-    let parts = segment_none (not (nat_eq t.initprot 5 || (nat_eq t.initprot 3 || nat_eq t.initprot 1)) || nat_eq (t.flags / 8 % 2) 1) t (find (λ (s : SegmentLoad). not (nat_eq s.initprot 5 || (nat_eq s.initprot 3 || nat_eq s.initprot 1)) || nat_eq (s.flags / 8 % 2) 1) ts) none in
+    let parts = find_none (not (nat_eq t.initprot 5 || (nat_eq t.initprot 3 || nat_eq t.initprot 1)) || nat_eq (t.flags / 8 % 2) 1) t (find (λ (s : SegmentLoad). not (nat_eq s.initprot 5 || (nat_eq s.initprot 3 || nat_eq s.initprot 1)) || nat_eq (s.flags / 8 % 2) 1) ts) none in
     subst (λ (s : SegmentLoad). IsProtection s.initprot) (sym is) (protection_of t.initprot (nat_eq (t.flags / 8 % 2) 1) parts.0)
 protections_of (t ∷ ts) none (suc g) l lt is =
-    let parts = segment_none (not (nat_eq t.initprot 5 || (nat_eq t.initprot 3 || nat_eq t.initprot 1)) || nat_eq (t.flags / 8 % 2) 1) t (find (λ (s : SegmentLoad). not (nat_eq s.initprot 5 || (nat_eq s.initprot 3 || nat_eq s.initprot 1)) || nat_eq (s.flags / 8 % 2) 1) ts) none in
+    let parts = find_none (not (nat_eq t.initprot 5 || (nat_eq t.initprot 3 || nat_eq t.initprot 1)) || nat_eq (t.flags / 8 % 2) 1) t (find (λ (s : SegmentLoad). not (nat_eq s.initprot 5 || (nat_eq s.initprot 3 || nat_eq s.initprot 1)) || nat_eq (s.flags / 8 % 2) 1) ts) none in
     protections_of ts parts.1 g l (omega arith) is
 
 -- a segment's protection is 5, 3 or 1
@@ -155,7 +116,7 @@ pub sound_protection : (image : Img) → IsSound image → (g : ℕ) (s : Seg) �
 sound_protection image sound g s lt is =
     let command = load-of image.segments (segment_loads (loads_of image.header)) sound.segments g s lt is in
     subst (λ (n : ℕ). IsProtection n) (sym (ap (λ (t : Seg). t.initprot) command.3))
-    (protections_of (segment_loads (loads_of image.header)) (sound_rules image sound).protections g command.0 command.1 command.2)
+    (protections_of (segment_loads (loads_of image.header)) (sound_rules image sound).prot g command.0 command.1 command.2)
 
 -- the protection of each mapping's segments
 abbrev pub protection : Mapping → ℕ
@@ -186,21 +147,8 @@ mapped_protection s m one own =
 
 -- `__LINKEDIT` is the last segment
 
-good_text : (size : ℕ) (l : SegmentLoad) → is_good_text size l ≡ true → is_linkedit l ≡ false
-good_text size l good =
-    let named = both (is_text l) (nat_eq l.initprot 5 && nat_le size l.filesize) good in
-    ap is_linkedit_name (same_text l.name (codes "__TEXT" ++ (0 ∷ 0 ∷ 0 ∷ 0 ∷ 0 ∷ 0 ∷ 0 ∷ 0 ∷ 0 ∷ 0 ∷ [])) (sym named.0))
-
 good_linkedit : (l : SegmentLoad) → is_good_linkedit l ≡ true → is_linkedit l ≡ true
-good_linkedit l good = (both (is_linkedit l) (nat_eq l.initprot 1 && nat_eq l.nsects 0) good).0
-
-or_false : (a b : Bool) → (a || b) ≡ false → b ≡ false
-or_false true b e = absurd (cc)
-or_false false b e = e
-
-wanted : (b : Bool) (at : ℕ) (o : Option ℕ) → (if b then o else Some at) ≡ None → (b ≡ true) × (o ≡ None)
-wanted true at o e = (refl, e)
-wanted false at o e = absurd (cc)
+good_linkedit l good = (and_parts (is_linkedit l) (nat_eq l.initprot 1 && nat_eq l.nsects 0) good).0
 
 abbrev IsLastAlone : ℕ → ℕ → SegmentLoad → Type 0
 IsLastAlone g n l = (g + 1 < n → is_linkedit l ≡ false) × (g + 1 ≡ n → is_linkedit l ≡ true)
@@ -208,20 +156,20 @@ IsLastAlone g n l = (g + 1 < n → is_linkedit l ≡ false) × (g + 1 ≡ n → 
 last_behind : (ls : List SegmentLoad) → misplaced_behind ls ≡ None → (g : ℕ) (l : SegmentLoad) → g < length ls → l ≡ get_or ls g l → IsLastAlone g (length ls) l
 last_behind [] none g l lt is = absurd (omega arith)
 last_behind (s ∷ []) none zero l lt is =
-    (λ less. absurd (omega (arith, less)), λ last. ap is_linkedit is ∙ good_linkedit s (wanted (is_good_linkedit s) s.at None none).0)
+    (λ less. absurd (omega (arith, less)), λ last. ap is_linkedit is ∙ good_linkedit s (when_true (is_good_linkedit s) s.at None none).0)
 last_behind (s ∷ []) none (suc g) l lt is = absurd (omega arith)
 last_behind (s ∷ t ∷ ss) none zero l lt is =
-    (λ less. ap is_linkedit is ∙ or_false (is_text s) (is_linkedit s) (refused (has_reserved_name s) s.at (misplaced_behind (t ∷ ss)) none).0, λ last. absurd (omega (arith, last)))
+    (λ less. ap is_linkedit is ∙ (or_parts (is_text s) (is_linkedit s) (when_false (has_reserved_name s) s.at (misplaced_behind (t ∷ ss)) none).0).1, λ last. absurd (omega (arith, last)))
 last_behind (s ∷ t ∷ ss) none (suc g) l lt is =
-    let rest = last_behind (t ∷ ss) (refused (has_reserved_name s) s.at (misplaced_behind (t ∷ ss)) none).1 g l (omega arith) is in
+    let rest = last_behind (t ∷ ss) (when_false (has_reserved_name s) s.at (misplaced_behind (t ∷ ss)) none).1 g l (omega arith) is in
     (λ less. rest.0 (omega (arith, less)), λ last. rest.1 (omega (arith, last)))
 
 last_alone : (size : ℕ) (ls : List SegmentLoad) → 2 ≤ length ls → misplaced size ls ≡ None → (g : ℕ) (l : SegmentLoad) → g < length ls → l ≡ get_or ls g l → IsLastAlone g (length ls) l
 last_alone size [] some none g l lt is = absurd (omega arith)
 last_alone size (s ∷ ss) some none zero l lt is =
-    (λ less. ap is_linkedit is ∙ good_text size s (wanted (is_good_text size s) s.at (misplaced_behind ss) none).0, λ last. absurd (omega (arith, last, some)))
+    (λ less. ap is_linkedit is ∙ text_no_linkedit size s (when_true (is_good_text size s) s.at (misplaced_behind ss) none).0, λ last. absurd (omega (arith, last, some)))
 last_alone size (s ∷ ss) some none (suc g) l lt is =
-    let rest = last_behind ss (wanted (is_good_text size s) s.at (misplaced_behind ss) none).1 g l (omega arith) is in
+    let rest = last_behind ss (when_true (is_good_text size s) s.at (misplaced_behind ss) none).1 g l (omega arith) is in
     (λ less. rest.0 (omega (arith, less)), λ last. rest.1 (omega (arith, last)))
 
 pub sound_linkedit : (image : Img) → IsSound image → (g : ℕ) (s : Seg) → g < length image.segments → s ≡ get_or image.segments g s
@@ -230,10 +178,10 @@ sound_linkedit image sound g s lt is =
     let ls : List SegmentLoad = segment_loads (loads_of image.header) in
     let size : ℕ = header_size image.header in
     let command = load-of image.segments ls sound.segments g s lt is in
-    let parts = shape_parts size ls (sound_rules image sound).shape in
+    let parts = shape_parts size ls (sound_rules image sound).segments in
     let few : nat_lt (length ls) 2 ≡ false = parts.0 in
     let some : 2 ≤ length ls = grind (arith, nat_tests) in
-    let long : length image.segments ≡ length ls = loads-long image.segments ls sound.segments in
+    let long : length image.segments ≡ length ls = loads_length image.segments ls sound.segments in
     let last = last_alone size ls some parts.3 g command.0 command.1 command.2 in
     let named : is_linkedit_segment s ≡ is_linkedit command.0 = ap (λ (t : Seg). is_linkedit_segment t) command.3 in
     (λ less. named ∙ last.0 (omega (arith, less, long)), λ at_end. named ∙ last.1 (omega (arith, at_end, long)))

@@ -1,19 +1,19 @@
 -- The segments of an image share no address, so their whole pages take no more room than all addresses below 2 ^ 47 do: going up page by page, each page is counted for one segment at most.
-use Rattle.std.proofs.Common.{◌≡◌, ◌≤◌, ◌<◌, ◌⊎◌, ℕ, zero, suc, ◌+◌, ◌-◌, ◌*◌, ◌/◌, ◌%◌, ◌^◌, min, Bool, true, false, not, ◌&&◌, List, [], ◌∷◌, map, refl, sym, ap, ◌∙◌, subst, arith, if◌then◌else◌, nat_le, nat_eq, inl, inr, Option, Some, None, add-one, length, get_or}
-use Rattle.std.specs.Prelude.{find}
+use Rattle.std.proofs.Common.{◌≡◌, ◌≤◌, ◌<◌, ◌⊎◌, ℕ, zero, suc, ◌+◌, ◌-◌, ◌*◌, ◌/◌, ◌%◌, ◌^◌, min, Bool, true, false, not, List, [], ◌∷◌, map, refl, sym, ap, ◌∙◌, subst, arith, if◌then◌else◌, inl, inr, Option, Some, None, add-one, length, get_or}
 use Rattle.std.proofs.lemmas.List.Sums.{sum_by-cons}
 use Rattle.std.proofs.lemmas.Bool.{cases_lt}
-use Rattle.std.proofs.lemmas.Bool.Decides.{nat_tests}
 use Rattle.dsc_base.specs.Region.{paged}
 use Rattle.macho_image.specs.Records.{Seg, SegmentLoad, Img}
 use Rattle.macho_image.specs.Macho.{header_size, loads_of, segment_loads, segment_with}
-use Rattle.macho_image.specs.Rules.{first_segment, is_well_shaped, first_crossing, breaks_segment_shape}
+use Rattle.macho_image.specs.Rules.{is_well_shaped, first_crossing, breaks_segment_shape}
 use Rattle.macho_image.specs.Addresses.{range_of}
 use Rattle.macho_image.specs.Breaks.{unread, IsSound}
 use Rattle.macho_image.proofs.Sharing.{hit, hits_of, hit_cases, hit_in, crossing_few}
-use Rattle.cache_layout.proofs.SoundLaws.{both, segment_none, shape_parts, sound_rules, load-of}
+use Rattle.cache_layout.proofs.SoundLaws.{load-of}
 use Rattle.cache_layout.specs.declared.mapping.Mapping.{Mapping}
 use Rattle.cache_layout.specs.Places.{mapping_of, is_same, share, room_of, segments_room}
+use Rattle.macho_image.proofs.HeaderRules.{shape_parts, sound_rules, IsShaped, all_shaped, all_fail}
+use Rattle.std.specs.List.{AllByRecursion}
 
 -- how many bytes of a segment's whole pages lie in the first n pages
 unfoldable below : ℕ → SegmentLoad → ℕ
@@ -97,25 +97,17 @@ belows-whole [] placed = refl
 belows-whole (s ∷ ss) placed = omega (arith, below-whole s placed.0 placed.1, belows-whole ss placed.2)
 
 -- segments of good shape lie in the space
-not_false : (b : Bool) → not b ≡ false → b ≡ true
-not_false true e = refl
-not_false false e = absurd (cc)
+are_in_space : (ss : List SegmentLoad) → AllByRecursion IsShaped ss → AreInSpace ss
+are_in_space [] shaped = tt
+are_in_space (s ∷ ss) shaped = (shaped.0.aligned, shaped.0.low, are_in_space ss shaped.1)
 
-are_in_space : (ss : List SegmentLoad) → first_segment (λ s. not (is_well_shaped s)) ss ≡ None → AreInSpace ss
-are_in_space [] none = tt
-are_in_space (s ∷ ss) none =
-    let parts = segment_none (not (is_well_shaped s)) s (find (λ (t : SegmentLoad). not (is_well_shaped t)) ss) none in
-    let first = both (nat_eq s.size (72 + 80 * s.nsects)) (nat_eq (s.vmaddr % 4096) 0 && (nat_le s.filesize s.vmsize && nat_le (s.vmaddr + s.vmsize) 0x8000_0000_0000)) (not_false (is_well_shaped s) parts.0) in
-    let second = both (nat_eq (s.vmaddr % 4096) 0) (nat_le s.filesize s.vmsize && nat_le (s.vmaddr + s.vmsize) 0x8000_0000_0000) first.1 in
-    let third = both (nat_le s.filesize s.vmsize) (nat_le (s.vmaddr + s.vmsize) 0x8000_0000_0000) second.1 in
-    let even : nat_eq (s.vmaddr % 4096) 0 ≡ true = second.0 in
-    let low : nat_le (s.vmaddr + s.vmsize) 0x8000_0000_0000 ≡ true = third.1 in
-    (grind (arith, nat_tests), grind (arith, nat_tests), are_in_space ss parts.1)
+shaped_loads : (size : ℕ) (ss : List SegmentLoad) → breaks_segment_shape size ss ≡ None → AllByRecursion IsShaped ss
+shaped_loads size ss none = all_shaped ss (all_fail (λ s. not (is_well_shaped s)) ss (shape_parts size ss none).1)
 
 shaped_few : (size : ℕ) (ss : List SegmentLoad) → breaks_segment_shape size ss ≡ None → pages_of (load_sizes ss) ≤ 2 ^ 47
 shaped_few size ss none =
     let rules = shape_parts size ss none in
-    let placed : AreInSpace ss = are_in_space ss rules.1 in
+    let placed : AreInSpace ss = are_in_space ss (shaped_loads size ss none) in
     omega (arith, belows-few 34359738368 ss placed rules.2, belows-whole ss placed)
 
 -- an image's segments are those of its header
@@ -147,7 +139,7 @@ room-le m (s ∷ ss) = omega (arith, sum_by-cons (room_of m) s ss, share-le m (m
 pub sound_room : (image : Img) → IsSound image → (m : Mapping) → segments_room m image.segments ≤ 2 ^ 47
 sound_room image sound m =
     let few : pages_of (sizes image.segments) ≤ 2 ^ 47 =
-    subst (λ (l : List ℕ). pages_of l ≤ 2 ^ 47) (sym (sound_sizes image sound)) (shaped_few (header_size image.header) (segment_loads (loads_of image.header)) (sound_rules image sound).shape) in
+    subst (λ (l : List ℕ). pages_of l ≤ 2 ^ 47) (sym (sound_sizes image sound)) (shaped_few (header_size image.header) (segment_loads (loads_of image.header)) (sound_rules image sound).segments) in
     omega (arith, room-le m image.segments, few)
 
 in_space-at : (ls : List SegmentLoad) → AreInSpace ls → (g : ℕ) (l : SegmentLoad) → g < length ls → l ≡ get_or ls g l → (l.vmaddr % 4096 ≡ 0) × (l.vmaddr + l.vmsize ≤ 0x8000_0000_0000)
@@ -160,5 +152,5 @@ pub sound_space : (image : Img) → IsSound image → (g : ℕ) (s : Seg) → g 
 sound_space image sound g s lt is =
     let ls : List SegmentLoad = segment_loads (loads_of image.header) in
     let command = load-of image.segments ls sound.segments g s lt is in
-    let placed = in_space-at ls (are_in_space ls (shape_parts (header_size image.header) ls (sound_rules image sound).shape).1) g command.0 command.1 command.2 in
+    let placed = in_space-at ls (are_in_space ls (shaped_loads (header_size image.header) ls (sound_rules image sound).segments)) g command.0 command.1 command.2 in
     subst (λ (t : Seg). (t.vmaddr % 4096 ≡ 0) × (t.vmaddr + t.vmsize ≤ 0x8000_0000_0000)) (sym command.3) placed

@@ -19,9 +19,6 @@ pub image_start-next : (m : Mapping) (is : List Img) (k : ℕ) (i : Img) → k <
     → image_start is (take (k + 1) is) m ≡ image_start is (take k is) m + segments_room m i.segments
 image_start-next m is k i lt at = omega (arith, rooms-step m is k i lt at)
 
-pub image_start-last : (m : Mapping) (is : List Img) → image_start is (take (length is) is) m ≡ mapping_start m is + images_room m is
-image_start-last m is = ap (λ (before : List Img). image_start is before m) (take_all (length is) is (omega arith))
-
 pub image_ends : (m : Mapping) (is : List Img) (k : ℕ) (i : Img) → k < length is → i ≡ get_or is k i → image_start is (take k is) m + segments_room m i.segments ≤ mapping_start m is + images_room m is
 image_ends m is k i lt at = omega (arith, rooms-fit m is k i lt at)
 
@@ -36,10 +33,3 @@ place-in_image is k g i s m there own = omega (arith, room_of-own m s own, room-
 -- the old address and the shift make the new address
 shifted : (new old : ℕ) → old ≤ 2 ^ 64 → (old + (new + (2 ^ 64 - old)) % 2 ^ 64) % 2 ^ 64 ≡ new % 2 ^ 64
 shifted new old fits = omega arith
-
-pub shift-adds : (is : List Img) (k g : ℕ) (i : Img) (s : Seg) (m : Mapping) → IsSegment is k g i s → mapping_of s ≡ Some m → s.vmaddr ≤ 2 ^ 64
-    → (s.vmaddr + get_or (get_or (layout_of is).shifts k []) g 0) % 2 ^ 64 ≡ (move_at (layout_of is) k g).address % 2 ^ 64
-shift-adds is k g i s m there own fits =
-    let at : ℕ = (move_at (layout_of is) k g).address in
-    ap (λ (n : ℕ). (s.vmaddr + n) % 2 ^ 64) (shift_at-is is k g i s there ∙ ap (λ (o : Option Mapping). shift_of o at s.vmaddr) own)
-    ∙ shifted at s.vmaddr fits

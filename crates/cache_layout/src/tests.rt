@@ -4,7 +4,7 @@ ghost use Rattle.cache_layout.specs.Layouts.{layout_of};
 
 use super::*;
 use dsc_base::{Break, Rule, SetFault, Span};
-use macho_image::{Form, Image, read_image};
+use macho_image::{Image, read_images};
 use sample_dylibs::{data_dylib, put_numbers};
 use std::alloc::Global;
 use std::test::*;
@@ -94,17 +94,6 @@ fn file_with(alloc: Global, further: usize, edits: &[(usize, u32)]) -> Result<Ve
     Ok(file)
 }
 
-fn images_of(alloc: Global, files: &[Vec<u8>]) -> Result<Vec<Image<'_>>, Fail> {
-    let mut images = Vec::new(alloc);
-    for file in files {
-        let image = read_image(alloc, file, 0, Form::Standalone)
-            .ok()
-            .ok_or("the dylib is read")?;
-        images.push(image)?;
-    }
-    Ok(images)
-}
-
 // The layout of images that have short names.
 fn laid_out(alloc: Global, images: &[Image<'_>]) -> Option<Result<Layout, SetFault>>
     ensures { IfSome result (λ r. IfOk r (λ l. l ≡ layout_of images.now)) }
@@ -164,7 +153,10 @@ fn rows(rt: HostRuntime) -> Result<(), Fail> {
         for (further, numbers) in edits {
             files.push(file_with(alloc, *further, numbers)?)?;
         }
-        let images = images_of(alloc, &files)?;
+        assert!(rt; files.len() <= 4096);
+        let images = read_images(alloc, &files)
+            .ok()
+            .ok_or("the dylibs are read")?;
         match laid_out(alloc, &images).ok_or("the images can be laid out")? {
             Ok(layout) => {
                 assert_eq!(rt; end, 0);

@@ -4,7 +4,7 @@ ghost use Rattle.std.specs.Prelude.{◌≡◌, ◌≤◌, length, IfOk};
 
 use crate::{Dep, Links, link_set};
 use dsc_base::SetFault;
-use macho_image::{Form, Image, read_image};
+use macho_image::{Image, read_images};
 use std::alloc::Global;
 use std::process::Abort;
 use std::test::Fail;
@@ -177,17 +177,6 @@ fn files_of(alloc: Global, dylibs: &[Dylib]) -> Result<Vec<Vec<u8>>, Fail> {
     Ok(files)
 }
 
-fn images_of<'a>(alloc: Global, files: &'a [Vec<u8>]) -> Result<Vec<Image<'a>>, Fail> {
-    let mut images = Vec::new(alloc);
-    for file in files {
-        let image = read_image(alloc, file, 0, Form::Standalone)
-            .ok()
-            .ok_or("the dylib is read")?;
-        images.push(image)?;
-    }
-    Ok(images)
-}
-
 // The images have these search orders.
 fn have_orders(rt: &impl Abort, links: &Links, images: &[Image<'_>], orders: &[&[u32]])
     requires few { length images.now ≤ 4097 }
@@ -204,7 +193,10 @@ fn sets(rt: HostRuntime) -> Result<(), Fail> {
     let alloc = rt.alloc();
     for (dylibs, wanted) in CASES {
         let files = files_of(alloc, dylibs)?;
-        let images = images_of(alloc, &files)?;
+        assert!(rt; files.len() <= 4096);
+        let images = read_images(alloc, &files)
+            .ok()
+            .ok_or("the dylibs are read")?;
         assert!(rt; images.len() <= 4097);
         match (link_set(alloc, &images), wanted) {
             (Ok(links), Ok(orders)) => have_orders(&rt, &links, &images, orders),
@@ -249,7 +241,10 @@ fn ordinals(rt: HostRuntime) -> Result<(), Fail> {
         alloc,
         &[(A, &[(WEAK, ABSENT), (LOAD, B)]), (B, &[(REEXPORT, A)])],
     )?;
-    let images = images_of(alloc, &files)?;
+    assert!(rt; files.len() <= 4096);
+    let images = read_images(alloc, &files)
+        .ok()
+        .ok_or("the dylibs are read")?;
     assert_eq!(rt; images.len(), 2);
     match link_set(alloc, &images) {
         Ok(links) => {

@@ -20,13 +20,13 @@ use Rattle.nlist_table.specs.Symbols.{Tabs}
 use Rattle.cache_layout.specs.Places.{numbered}
 use Rattle.cache_layout.proofs.NumberedLaws.{numbered-get, length-numbered}
 use Rattle.linkedit_merge.specs.Indices.{pool_len}
-use Rattle.linkedit_merge.specs.Linkedit.{streams_in, all_indirect, pool_of, tables_in, parts_of, linkedit_size, linkedit_start, too_large, merge_break}
+use Rattle.linkedit_merge.specs.Linkedit.{streams_in, all_indirect, pool_of, tables_in, parts_of, linkedit_size, linkedit_start, too_large, merge_break, linkedit_of}
 use Rattle.linkedit_merge.specs.Parts.{end_with, end_behind, lens_of}
 use Rattle.linkedit_merge.specs.Pool.{pooled_behind, symbol_names}
 use Rattle.linkedit_merge.specs.Shares.{Share, moved_symbol, share_of, share_at, shares_of}
 use Rattle.linkedit_merge.specs.Sizes.{Exceeds, moved_at, own_at, all_streams, symbols_size, indirect_size, whole_size}
 use Rattle.linkedit_merge.proofs.ListLaws.{flat_map-map, flat_within}
-use Rattle.linkedit_merge.proofs.PartLaws.{end-append}
+use Rattle.linkedit_merge.proofs.PartLaws.{end-append, length-joined}
 use Rattle.linkedit_merge.proofs.SizeLaws.{end_with-covers}
 use Rattle.linkedit_merge.proofs.ShareLaws.{many_shares, flats_by_tables, long_symbols, long_indirect, indirect_all}
 
@@ -133,6 +133,10 @@ fits_where layout slide shares below =
     cond-false (nat_lt span_limit (linkedit_start layout slide + paged (linkedit_size shares))) (Some too_large) None (le-ltb span_limit (linkedit_start layout slide + paged (linkedit_size shares)) below)
 
 -- and the other way
+pub length-linkedit_of : (shares : List Share) → length (linkedit_of shares) ≡ linkedit_size shares
+unfolding linkedit_of linkedit_size
+length-linkedit_of shares = length-joined [] (parts_of shares)
+
 pub unbroken_fits : (layout : Laid) (slide : ℕ) (shares : List Share) → merge_break layout slide shares ≡ None → linkedit_start layout slide + paged (linkedit_size shares) ≤ span_limit
 unfolding merge_break
 unbroken_fits layout slide shares none = ltb-false span_limit (linkedit_start layout slide + paged (linkedit_size shares)) (clear (nat_lt span_limit (linkedit_start layout slide + paged (linkedit_size shares))) none)

@@ -3,7 +3,7 @@ use Rattle.std.proofs.Common.{◌≡◌, ◌≤◌, ℕ, ◌+◌, ◌∙◌, Boo
 use Rattle.std.specs.Prelude.{nat_eq, ◌||◌, unwrap_or}
 use Rattle.std.specs.List.{list_any, flat_map}
 use Rattle.std.specs.Cmp.Lexicographic.{same_text, nat_list_eq_equiv}
-use Rattle.std.proofs.lemmas.Bool.{cond-true, cond-false, eqb-true}
+use Rattle.std.proofs.lemmas.Bool.{cond-true, cond-false, eqb-true, or_right}
 use Rattle.std.proofs.lemmas.List.{length-append, nil_from_length}
 use Rattle.std.proofs.lemmas.List.Elements.{All-nil, All-cons}
 use Rattle.macho_image.specs.Nlists.{name_at}
@@ -116,10 +116,6 @@ any_last f (y ∷ ys) x is = go (f y) (any_last f ys x is)
     go : (b : Bool) → list_any f (ys ++ x ∷ []) ≡ true → b || list_any f (ys ++ x ∷ []) ≡ true
     go true later = refl
     go false later = later
-
-or_right : (a b : Bool) → b ≡ true → a || b ≡ true
-or_right true b is = refl
-or_right false b is = is
 
 or_more : (a b c : Bool) → (b ≡ true → c ≡ true) → a || b ≡ true → a || c ≡ true
 or_more true b c more is = refl

@@ -11,7 +11,7 @@ use Rattle.macho_image.specs.Records.{Img}
 use Rattle.export_trie.specs.declared.export.Export.{Export}
 use Rattle.nlist_table.specs.Symbols.{Tabs}
 use Rattle.linkedit_merge.specs.Sizes.{Exceeds, all_streams, symbols_size, indirect_size, whole_size}
-use Rattle.linkedit_merge.proofs.PartLaws.{end_with-rises, end-rises}
+use Rattle.linkedit_merge.proofs.PartLaws.{end_with-rises}
 
 exceeds_more : (less more : ℕ) (fault : SetFault) → less ≤ more → Exceeds less fault → Exceeds more fault
 exceeds_more less more (Broken b) below h = (h.0, omega arith)
@@ -21,9 +21,6 @@ exceeds_more less more Memory below h = tt
 pub exceeds_exit : {X : Type 0} (less more : ℕ) (r : Result X SetFault) (fault : SetFault) → less ≤ more → IsErrAnd r (λ g. g ≡ fault) → Exceeds less fault → IfErr r (Exceeds more)
 exceeds_exit less more (Ok x) fault below is h = tt
 exceeds_exit less more (Err g) fault below is h = exceeds_more less more g below (subst (λ (f : SetFault). Exceeds less f) (sym is) h)
-
-pub exceeds_later : {X : Type 0} (before : ℕ) (lens : List ℕ) (r : Result X SetFault) (fault : SetFault) → IsErrAnd r (λ g. g ≡ fault) → Exceeds before fault → IfErr r (Exceeds (end_behind before lens))
-exceeds_later before lens r fault is h = exceeds_exit before (end_behind before lens) r fault (end-rises before lens) is h
 
 -- sizes one further on
 pub end_more : (before : ℕ) (lens : List ℕ) (n : ℕ) → n < length lens → end_behind before (drop n lens) ≡ end_behind (end_with before (get_or lens n 0)) (drop (n + 1) lens)

@@ -1,28 +1,26 @@
 -- The tables that an image finds in a linkedit break no rule.
-use Rattle.std.proofs.Common.{◌≡◌, ◌≤◌, ◌<◌, ℕ, ◌+◌, Bool, true, false, not, ◌&&◌, ◌||◌, List, [], ◌∷◌, length, map, get_or, refl, sym, ap, ap₂, ◌∙◌, subst, arith, if◌then◌else◌, Option, Some, None, All}
+use Rattle.std.proofs.Common.{◌≡◌, ◌≤◌, ◌<◌, ℕ, ◌+◌, Bool, true, false, not, ◌&&◌, ◌||◌, List, [], ◌∷◌, length, map, get_or, refl, sym, ap, ap₂, ◌∙◌, arith, if◌then◌else◌, Option, Some, None, All}
 use Rattle.std.specs.Prelude.{position, option_map, slice_get, slice_index, is_none, nat_eq, nat_lt}
-use Rattle.std.specs.List.{flat_map}
 use Rattle.std.proofs.lemmas.Bool.Decides.{nat_tests}
 use Rattle.std.proofs.lemmas.List.{length-map}
 use Rattle.std.proofs.lemmas.List.Elements.{All-nil, All-head, All-tail}
 use Rattle.std.proofs.lemmas.Option.{slice_get-map, slice_get-get_or}
 use Rattle.dsc_base.specs.Limits.{span_limit}
-use Rattle.dsc_base.specs.Numbers.{little_bytes}
 use Rattle.dsc_base.specs.Refusals.{broken, least}
 use Rattle.dsc_base.specs.declared.rule.Rule.TheVariants.{TableNameOutside, TableBadSection, TableIndexOutside}
-use Rattle.macho_image.specs.Nlists.{Nlist, is_stab, is_kept, is_in_section, is_alias, name_at, is_flag, nlists_of, indirect_of}
+use Rattle.macho_image.specs.Nlists.{Nlist, is_kept, is_in_section, is_alias, name_at, is_flag, nlists_of}
 use Rattle.macho_image.specs.TableRules.{lacks_name, lacks_section, ends_behind, breaks_groups, is_symbol, lacks_symbol, nearer, tables_break}
 use Rattle.nlist_table.specs.Symbols.{Sym, Tabs}
 use Rattle.nlist_table.specs.Kept.{HasAlias, HasSection, IsSymbol, AreTables}
 use Rattle.dep_closure.proofs.PositionLaws.{position-cons}
 use Rattle.linkedit_merge.specs.Indices.{pool_len}
-use Rattle.linkedit_merge.specs.Linkedit.{entry_value, entry_of, symbol_bytes, pool_of, linkedit_of, spots_in}
+use Rattle.linkedit_merge.specs.Linkedit.{entry_value, entry_of, pool_of, linkedit_of, spots_in}
 use Rattle.linkedit_merge.specs.Parts.{bytes_in}
-use Rattle.linkedit_merge.specs.Pool.{is_pooled, pool_bytes, index_in}
+use Rattle.linkedit_merge.specs.Pool.{is_pooled, pool_bytes}
 use Rattle.linkedit_merge.specs.ReadBack.{FitsSymbol}
 use Rattle.linkedit_merge.specs.Shares.{Share}
 use Rattle.linkedit_merge.proofs.NameLaws.{read_name}
-use Rattle.linkedit_merge.proofs.ReadLaws.{HasPieces, pieces_found, share_pooled}
+use Rattle.linkedit_merge.proofs.ReadLaws.{pieces_found, share_pooled}
 use Rattle.linkedit_merge.proofs.TableLaws.{ArePooled, entries_back}
 
 none_behind : {X : Type 0} (p : X → Bool) (x : X) (xs : List X) → p x ≡ false → position p xs ≡ None → position p (x ∷ xs) ≡ None

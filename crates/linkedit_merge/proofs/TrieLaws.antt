@@ -4,7 +4,6 @@ use Rattle.std.proofs.lemmas.List.{length-map, get_or-map}
 use Rattle.macho_image.specs.Records.{Seg}
 use Rattle.macho_image.specs.declared.place.Moved.{Moved}
 use Rattle.macho_image.specs.declared.places.segment_index.Inside.{Inside}
-use Rattle.macho_image.specs.Places.{above}
 use Rattle.macho_image.specs.Segments.{inside}
 use Rattle.prebind.specs.Places.{address_of_export}
 use Rattle.export_trie.specs.declared.export.Export.{Export}
@@ -19,16 +18,13 @@ use Rattle.export_trie.proofs.ExportLaws.{read_back}
 use Rattle.linkedit_merge.specs.Exports.{new_header, offset_from, moved_offset, moved_target, moved_export, moved_exports}
 use Rattle.linkedit_merge.specs.ReadBack.{IsTrie}
 use Rattle.linkedit_merge.proofs.ExportLaws.{moved_writable}
+use Rattle.macho_image.proofs.AboveLaws.{above_small}
 
 -- ---- moved offsets have 64 bits
 
-above-fits : (a x : ℕ) → above a x < 2 ^ 64
-unfolding above
-above-fits a x = omega arith
-
 offset-fits : (segments : List Seg) (moves : List Moved) (offset : ℕ) (place : Option Inside) → offset < 2 ^ 64 → offset_from segments moves offset place < 2 ^ 64
 offset-fits segments moves offset None fits = fits
-offset-fits segments moves offset (Some p) fits = above-fits (new_header segments moves) _
+offset-fits segments moves offset (Some p) fits = above_small (new_header segments moves) _
 
 moved-fits : (segments : List Seg) (moves : List Moved) (offset : ℕ) → offset < 2 ^ 64 → moved_offset segments moves offset < 2 ^ 64
 unfolding moved_offset

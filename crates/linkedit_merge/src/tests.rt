@@ -12,9 +12,9 @@ use cache_layout::{Layout, lay_out};
 use dep_closure::link_set;
 use dsc_base::{Break, Rule, SetFault};
 use macho_edit::LinkSpots;
-use macho_image::{Form, Image, read_image};
+use macho_image::{Image, read_images};
 use nlist_table::{Tables, read_tables};
-use prebind::{ImageStreams, Set, check_exports, read_streams};
+use prebind::{ImageStreams, Set, check_exports, read_all_streams};
 use sample_dylibs::{put_numbers, symbols_dylib};
 use std::alloc::Global;
 use std::test::*;
@@ -59,39 +59,6 @@ fn file_of(alloc: Global, letters: u32) -> Result<Vec<u8>, Fail> {
     put_numbers(&mut file, &TABLES);
     put_numbers(&mut file, &[(0x118, letters)]);
     Ok(file)
-}
-
-fn images_of(alloc: Global, files: &[Vec<u8>]) -> Result<Vec<Image<'_>>, Fail> {
-    let mut images = Vec::new(alloc);
-    for file in files {
-        let image = read_image(alloc, file, 0, Form::Standalone)
-            .ok()
-            .ok_or("the dylib is read")?;
-        images.push(image)?;
-    }
-    Ok(images)
-}
-
-fn streams_in<'a>(alloc: Global, image: &Image<'a>) -> Result<ImageStreams<'a>, Fail>
-    ensures lists { IfOk result (λ s. s ≡ lists_of image.now) }
-    ensures unbroken { OnOk result (streams_break image.now ≡ None) }
-{
-    match read_streams(alloc, image) {
-        Ok((streams, _)) => Ok(streams),
-        Err(_) => Err("the streams are read")?,
-    }
-}
-
-fn streams_of<'a>(alloc: Global, images: &[Image<'a>]) -> Result<Vec<ImageStreams<'a>>, Fail>
-    ensures lists { IfOk result (λ v. v.items ≡ map lists_of images.now) }
-    ensures unbroken { OnOk result (All (λ i. streams_break i ≡ None) images.now) }
-{
-    let mut streams = Vec::new(alloc);
-    for image in images {
-        let read = streams_in(alloc, image)?;
-        streams.push(read)?;
-    }
-    Ok(streams)
 }
 
 fn tables_in<'a>(alloc: Global, image: &Image<'a>) -> Result<Tables<'a>, Fail>
@@ -184,24 +151,41 @@ fn merged_of(
     }
 }
 
-fn linkedit_of(alloc: Global, files: &[Vec<u8>]) -> Result<(Vec<u8>, Vec<LinkSpots>), Fail> {
-    let images = images_of(alloc, files)?;
-    let streams = streams_of(alloc, &images)?;
-    let tables = tables_of(alloc, &images)?;
-    let layout = laid_out(alloc, &images)?;
-    if images.len() > 4096 {
-        return Err("few images")?;
-    }
-    match link_set(alloc, &images) {
+fn linkedit_with(
+    alloc: Global,
+    images: &[Image<'_>],
+    streams: &[ImageStreams<'_>],
+) -> Result<(Vec<u8>, Vec<LinkSpots>), Fail>
+    requires few { length images.now ≤ 4096 }
+    requires lists { streams.now ≡ map lists_of images.now }
+    requires unbroken { All (λ i. streams_break i ≡ None) images.now }
+{
+    let tables = tables_of(alloc, images)?;
+    let layout = laid_out(alloc, images)?;
+    match link_set(alloc, images) {
         Ok(links) => {
             let set = Set {
-                images: &images,
-                streams: &streams,
+                images,
+                streams,
                 links: &links,
             };
             merged_of(alloc, &set, &tables, &layout)
         }
         Err(_) => Err("the set is linked")?,
+    }
+}
+
+fn linkedit_of(alloc: Global, files: &[Vec<u8>]) -> Result<(Vec<u8>, Vec<LinkSpots>), Fail> {
+    if files.len() > 4096 {
+        return Err("few files")?;
+    }
+    let images = read_images(alloc, files).ok().ok_or("the dylibs are read")?;
+    if images.len() > 4096 {
+        return Err("few images")?;
+    }
+    match read_all_streams(alloc, &images) {
+        Ok(streams) => linkedit_with(alloc, &images, &streams),
+        Err(_) => Err("the streams are read")?,
     }
 }
 

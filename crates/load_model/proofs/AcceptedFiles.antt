@@ -12,7 +12,7 @@ use Rattle.prebind.proofs.SetLaws.{HaveStreams}
 use Rattle.load_model.specs.Phases.{images_of, shape_break, linkedits_from, symbols_break, images_break, files_break}
 use Rattle.load_model.proofs.FirstLaws.{AreUnbroken, first_each}
 use Rattle.load_model.proofs.LinkeditLaws.{streams_unbroken, tables_unbroken}
-use Rattle.load_model.proofs.Unbroken.{neither}
+use Rattle.macho_image.proofs.Unbroken.{or_none}
 
 pub record AreAccepted (files : List (List ℕ)) : Type 0 where
   pub shapes : in_each shape_break 0 files ≡ None
@@ -26,11 +26,11 @@ pub accepted_files : (files : List (List ℕ)) → files_break files ≡ None �
 unfolding files_break images_break symbols_break image_set
 accepted_files files none =
     let is : List Img = images_of files in
-    let one = neither (in_each shape_break 0 files) (images_break (images_of files)) none in
-    let two = neither (linkedits_from 0 0 0 is) _ one.1 in
-    let three = neither (link_break is) _ two.1 in
-    let four = neither (symbols_break (image_set is)) None three.1 in
-    let five = neither _ _ four.0 in
+    let one = or_none (in_each shape_break 0 files) (images_break (images_of files)) none in
+    let two = or_none (linkedits_from 0 0 0 is) _ one.1 in
+    let three = or_none (link_break is) _ two.1 in
+    let four = or_none (symbols_break (image_set is)) None three.1 in
+    let five = or_none _ _ four.0 in
     record {
       shapes = one.0;
       streams = streams_unbroken 0 0 0 is two.0;

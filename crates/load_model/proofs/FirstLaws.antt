@@ -8,7 +8,7 @@ use Rattle.dsc_base.specs.declared.fault.SetFault.{SetFault}
 use Rattle.dsc_base.specs.declared.fault.SetFault.TheVariants.{Broken, Memory}
 use Rattle.dsc_base.specs.Refusals.{first_break, IsSetRefusal}
 use Rattle.load_model.specs.Phases.{first_of}
-use Rattle.load_model.proofs.Unbroken.{neither}
+use Rattle.macho_image.proofs.Unbroken.{or_none}
 
 -- the first n images break nothing
 abbrev pub AreUnbroken : (ℕ → Option Break) → ℕ → Type 0
@@ -52,10 +52,10 @@ each_from : (breaks : ℕ → Option Break) (a n k : ℕ) → first_break (map b
 each_from breaks a zero k none lt = absurd (omega arith)
 each_from breaks a (suc n) zero none lt =
     let here : a ≡ a + 0 = omega arith in
-    ap breaks (sym here) ∙ (neither (breaks a) (first_break (map breaks (range_with_len (a + 1) n))) none).0
+    ap breaks (sym here) ∙ (or_none (breaks a) (first_break (map breaks (range_with_len (a + 1) n))) none).0
 each_from breaks a (suc n) (suc k) none lt =
     let at : a + 1 + k ≡ a + suc k = omega arith in
-    ap breaks (sym at) ∙ each_from breaks (a + 1) n k (neither (breaks a) (first_break (map breaks (range_with_len (a + 1) n))) none).1 (omega (arith, lt))
+    ap breaks (sym at) ∙ each_from breaks (a + 1) n k (or_none (breaks a) (first_break (map breaks (range_with_len (a + 1) n))) none).1 (omega (arith, lt))
 
 pub first_each : (breaks : ℕ → Option Break) (n : ℕ) → first_of breaks n ≡ None → AreUnbroken breaks n
 first_each breaks n none k lt = let same : 0 + k ≡ k = omega arith in ap breaks (sym same) ∙ each_from breaks 0 n k none lt

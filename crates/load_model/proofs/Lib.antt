@@ -1,4 +1,3 @@
-pub mod AcceptLaws
 pub mod AcceptedFiles
 pub mod BoundLaws
 pub mod CellLaws
@@ -10,12 +9,9 @@ pub mod MappedLaws
 pub mod NumberLaws
 pub mod PlacedLaws
 pub mod RebasedLaws
-pub mod SetLaws
 pub mod ShapeLaws
-pub mod SliceLaws
 pub mod SoundSets
 pub mod SumLaws
-pub mod Unbroken
 pub mod WordCases
 pub mod SpreadLaws
 pub mod LoadedWords

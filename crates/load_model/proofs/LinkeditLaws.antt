@@ -1,8 +1,8 @@
 -- The linkedits of images, read one by one.
-use Rattle.std.proofs.Common.{◌≡◌, ◌≤◌, ◌<◌, ℕ, zero, suc, ◌+◌, Option, Some, None, List, [], ◌∷◌, ◌++◌, map, take, drop, length, get_or, refl, sym, ap, ap₂, ◌∙◌, subst, arith}
+use Rattle.std.proofs.Common.{◌≡◌, ◌≤◌, ◌<◌, ℕ, zero, suc, ◌+◌, Option, Some, None, List, [], ◌∷◌, ◌++◌, map, take, drop, length, get_or, refl, sym, ap, ap₂, ◌∙◌, subst}
 use Rattle.std.specs.Prelude.{option_map, slice_get}
 use Rattle.std.specs.Option.{option_or}
-use Rattle.std.proofs.lemmas.List.{drop_more, drop_all, take_all, take_more, map-append}
+use Rattle.std.proofs.lemmas.List.{drop_more, drop_all, take_more, map-append}
 use Rattle.dsc_base.specs.declared.fault.Site.{Site}
 use Rattle.dsc_base.specs.declared.fault.Break.{Break}
 use Rattle.dsc_base.specs.declared.fault.Fault.{Fault}
@@ -17,6 +17,7 @@ use Rattle.prebind.specs.Sets.{StreamLists, lists_of, streams_break}
 use Rattle.prebind.proofs.SetLaws.{HaveStreams}
 use Rattle.load_model.specs.Sums.{record_count, name_bytes, sums_break}
 use Rattle.load_model.specs.Phases.{linkedit_break, linkedits_from}
+use Rattle.macho_image.proofs.Unbroken.{or_none}
 
 -- the linkedits of n images are read
 pub record AreLinkedits (images : List Img) (streams : List StreamLists) (tables : List Tabs) (records names n : ℕ) : Type 0 where
@@ -25,9 +26,6 @@ pub record AreLinkedits (images : List Img) (streams : List StreamLists) (tables
   pub few : records ≤ set_record_limit
   pub short : names ≤ export_names_limit
   pub rest : linkedits_from n records names (drop n images) ≡ linkedits_from 0 0 0 images
-
-pub linkedits_start : (images : List Img) (streams : List StreamLists) (tables : List Tabs) → streams ≡ [] → tables ≡ [] → AreLinkedits images streams tables 0 0 0
-linkedits_start images streams tables none nothing = record { streams_are = none; tables_are = nothing; few = omega arith; short = omega arith; rest = refl }
 
 -- the next image decides
 step : (images : List Img) (streams : List StreamLists) (tables : List Tabs) (records names n : ℕ) (i : Img) → AreLinkedits images streams tables records names n → n < length images → i ≡ get_or images n i
@@ -58,10 +56,6 @@ linkedits_more images streams streams' tables tables' records names records' nam
           ∙ step images streams tables records names n i read lt at);
     }
 
-pub linkedits_read : (images : List Img) (streams : List StreamLists) (tables : List Tabs) (records names n : ℕ) → AreLinkedits images streams tables records names n → length images ≤ n → (streams ≡ map lists_of images) × (tables ≡ map tables_of images)
-linkedits_read images streams tables records names n read all =
-    (read.streams_are ∙ ap (λ (is : List Img). map lists_of is) (take_all n images all), read.tables_are ∙ ap (λ (is : List Img). map tables_of is) (take_all n images all))
-
 pub linkedits_none : (images : List Img) (streams : List StreamLists) (tables : List Tabs) (records names n : ℕ) → AreLinkedits images streams tables records names n → length images ≤ n → linkedits_from 0 0 0 images ≡ None
 unfolding linkedits_from
 linkedits_none images streams tables records names n read all = sym read.rest ∙ ap (λ (is : List Img). linkedits_from n records names is) (drop_all n images all)
@@ -74,24 +68,20 @@ linkedits_refused images streams tables records names n i (Broken site) answer r
     ∙ ap (λ (o : Option Site). option_or {T = Break} (option_map {T = Site} {U = Break} (in_image n) o) (linkedits_from (n + 1) (records + record_count i) (names + name_bytes i) (drop (n + 1) images))) found)
 linkedits_refused images streams tables records names n i Memory answer read lt at found is = subst (λ (a : SetFault). IsSetRefusal (linkedits_from 0 0 0 images) a) (sym is) tt
 
--- images whose linkedits break no rule have streams that break none
-neither : {X : Type 0} (a b : Option X) → option_or a b ≡ None → (a ≡ None) × (b ≡ None)
-neither None b none = (refl, none)
-neither (Some x) b none = absurd (cc)
-
 site_none : (k : ℕ) (o : Option Site) → option_map {T = Site} {U = Break} (in_image k) o ≡ None → o ≡ None
 site_none k None none = refl
 site_none k (Some s) none = absurd (cc)
 
+-- images whose linkedits break no rule have streams that break none
 pub streams_unbroken : (n records names : ℕ) (images : List Img) → linkedits_from n records names images ≡ None → HaveStreams images
 unfolding linkedits_from linkedit_break
 streams_unbroken n records names [] none k image got = absurd (cc)
 streams_unbroken n records names (i ∷ is) none zero image got =
-    let own = neither (option_map {T = Site} {U = Break} (in_image n) (linkedit_break records names i)) (linkedits_from (n + 1) (records + record_count i) (names + name_bytes i) is) none in
+    let own = or_none (option_map {T = Site} {U = Break} (in_image n) (linkedit_break records names i)) (linkedits_from (n + 1) (records + record_count i) (names + name_bytes i) is) none in
     let same : i ≡ image = cc in
-    ap streams_break (sym same) ∙ (neither (streams_break i) _ (site_none n (linkedit_break records names i) own.0)).0
+    ap streams_break (sym same) ∙ (or_none (streams_break i) _ (site_none n (linkedit_break records names i) own.0)).0
 streams_unbroken n records names (i ∷ is) none (suc k) image got =
-    let own = neither (option_map {T = Site} {U = Break} (in_image n) (linkedit_break records names i)) (linkedits_from (n + 1) (records + record_count i) (names + name_bytes i) is) none in
+    let own = or_none (option_map {T = Site} {U = Break} (in_image n) (linkedit_break records names i)) (linkedits_from (n + 1) (records + record_count i) (names + name_bytes i) is) none in
     streams_unbroken (n + 1) (records + record_count i) (names + name_bytes i) is own.1 k image got
 
 -- and tables that break none
@@ -99,12 +89,12 @@ pub tables_unbroken : (n records names : ℕ) (images : List Img) → linkedits_
 unfolding linkedits_from linkedit_break
 tables_unbroken n records names [] none k image got = absurd (cc)
 tables_unbroken n records names (i ∷ is) none zero image got =
-    let own = neither (option_map {T = Site} {U = Break} (in_image n) (linkedit_break records names i)) (linkedits_from (n + 1) (records + record_count i) (names + name_bytes i) is) none in
+    let own = or_none (option_map {T = Site} {U = Break} (in_image n) (linkedit_break records names i)) (linkedits_from (n + 1) (records + record_count i) (names + name_bytes i) is) none in
     let same : i ≡ image = cc in
-    let streams = neither (streams_break i) _ (site_none n (linkedit_break records names i) own.0) in
-    ap table_break (sym same) ∙ (neither (table_break i) _ streams.1).0
+    let streams = or_none (streams_break i) _ (site_none n (linkedit_break records names i) own.0) in
+    ap table_break (sym same) ∙ (or_none (table_break i) _ streams.1).0
 tables_unbroken n records names (i ∷ is) none (suc k) image got =
-    let own = neither (option_map {T = Site} {U = Break} (in_image n) (linkedit_break records names i)) (linkedits_from (n + 1) (records + record_count i) (names + name_bytes i) is) none in
+    let own = or_none (option_map {T = Site} {U = Break} (in_image n) (linkedit_break records names i)) (linkedits_from (n + 1) (records + record_count i) (names + name_bytes i) is) none in
     tables_unbroken (n + 1) (records + record_count i) (names + name_bytes i) is own.1 k image got
 
 -- ---- one linkedit, whose streams and tables break no rule

@@ -1,7 +1,7 @@
 -- A reference that is no pointer leads to its target once its image is loaded: its bytes are the file's, and both ends of a difference move alike.
-use Rattle.std.proofs.Common.{◌≡◌, ◌≤◌, ◌<◌, ◌⊎◌, ℕ, ◌+◌, ◌-◌, ◌*◌, ◌^◌, Bool, true, false, not, ◌&&◌, ◌||◌, Option, Some, List, [], ◌∷◌, length, map, get_or, refl, sym, ap, ◌∙◌, subst, arith, inl, inr}
+use Rattle.std.proofs.Common.{◌≡◌, ◌≤◌, ◌<◌, ◌⊎◌, ℕ, ◌+◌, ◌-◌, ◌*◌, ◌^◌, Bool, true, false, not, ◌&&◌, ◌||◌, Option, Some, List, [], ◌∷◌, length, map, get_or, sym, ap, ◌∙◌, subst, arith, inl, inr}
 use Rattle.std.specs.Prelude.{slice_get, slice_index}
-use Rattle.std.proofs.lemmas.Bool.{cases_lt, false≢true}
+use Rattle.std.proofs.lemmas.Bool.{cases_lt, false≢true, or_parts}
 use Rattle.std.proofs.lemmas.Bool.Decides.{nat_tests}
 use Rattle.dsc_base.specs.Numbers.{number_at, little_bytes}
 use Rattle.dsc_base.proofs.NumberLaws.{number_at-same, number_at-lt}
@@ -75,14 +75,10 @@ reference_accepted i s r sound streams there = elim streams.references [
 
 -- ---- they share no byte with a word
 
-or_false : (a b : Bool) → a || b ≡ false → (a ≡ false) × (b ≡ false)
-or_false true b is = absurd (cc)
-or_false false b is = (refl, is)
-
 not_met : (words : List Location) (r : Reference) (l : Location) → meets_word words r ≡ false → IsIn words l → shares r.from (width_of r.kind) l.address 8 ≡ false
 not_met [] r l none there = absurd (in_none l there)
 not_met (m ∷ ms) r l none there =
-    let two = or_false (shares r.from (width_of r.kind) m.address 8) (meets_word ms r) none in
+    let two = or_parts (shares r.from (width_of r.kind) m.address 8) (meets_word ms r) none in
     elim (in_cases m ms l there) [
       | inl is ↦ subst (λ (x : Location). shares r.from (width_of r.kind) x.address 8 ≡ false) is two.0
       | inr later ↦ not_met ms r l two.1 later
@@ -105,7 +101,7 @@ no_word rebases bound r other none = at (is_pointer r.kind) (meets_word rebases 
   where
     at : (p a b : Bool) → p ≡ false → not p && (a || b) ≡ false → (a ≡ false) × (b ≡ false)
     at true a b other none = absurd (cc)
-    at false a b other none = or_false a b none
+    at false a b other none = or_parts a b none
 
 -- ---- where they lead
 

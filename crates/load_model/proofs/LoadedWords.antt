@@ -32,6 +32,7 @@ use Rattle.load_model.proofs.RebasedLaws as rebase
 use Rattle.load_model.proofs.RebasedLaws.{IsFree}
 use Rattle.load_model.proofs.WordCases.{IsIn, in_map, IsImageOf}
 use Rattle.load_model.proofs.SpreadLaws.{free_of_binds, binds_spread, rebases_read, rebase_is_word, word_low, binds_low, free_far}
+use Rattle.macho_image.proofs.AboveLaws.{wrap_fits}
 
 -- an image of a set whose streams were read, and whose segments are apart
 pub record IsReadImage (set : ImageSet) (k : ℕ) (i : Img) (s : StreamLists) : Type 0 where
@@ -85,9 +86,6 @@ pub slid_start : (set : ImageSet) (slides : ℕ → ℕ) (k g value : ℕ) (i : 
 slid_start set slides k g value i image apart =
     ap (λ (n : ℕ). wrap (n + above (start_of (slice_get i.segments g)) value)) (loaded_start set slides k g i image)
     ∙ counted (start_of (slice_get i.segments g)) value (slides k) (start_low i.segments g apart)
-
-wrap_fits : (n : ℕ) → wrap n < 2 ^ 64
-wrap_fits n = omega arith
 
 -- ---- bound words
 

@@ -32,7 +32,7 @@ pub length-in_memory : (s : Seg) → IsLow s → length (in_memory s) ≡ s.vmsi
 length-in_memory s low =
     length-append s.bytes (replicate (s.vmsize - s.filesize) 0) ∙ omega (arith, low.bytes, low.within, length-replicate {A = ℕ} (s.vmsize - s.filesize) 0)
 
-zero_byte : (n d : ℕ) → ◌≡◌ {A = ℕ} (get_or (replicate n 0) d 0) 0
+pub zero_byte : (n d : ℕ) → ◌≡◌ {A = ℕ} (get_or (replicate n 0) d 0) 0
 zero_byte zero d = refl
 zero_byte (suc n) zero = refl
 zero_byte (suc n) (suc d) = zero_byte n d

@@ -139,9 +139,3 @@ in_none y (l ∷ ls) none = (
   ],
   in_none y ls (λ i m got. none (suc i) m got),
 )
-
-pub rebased_other : (slide y : ℕ) (image : Img) (ls : List Location) → AreApart image.segments → AreRebases image ls → y < 2 ^ 47
-    → ((i : ℕ) (l : Location) → slice_get ls i ≡ Some l → l.address ≤ y → y < l.address + 8 → ⊥)
-    → rebased slide (addresses_of ls) (segment_cells slide image.segments) (wrap (y + slide)) ≡ segment_cells slide image.segments (wrap (y + slide))
-rebased_other slide y image ls apart rebases low none =
-    free_byte slide y (addresses_of ls) (segment_cells slide image.segments) (omega (arith, low)) (rebases_low image ls apart rebases) (in_none y ls none)

@@ -20,7 +20,6 @@ use Rattle.prebind.specs.Words.{Word, is_bound, streams_in, words_of}
 use Rattle.prebind.specs.WordRules.{breaks_135, breaks_136, breaks_137, rebases_broken, symbol_break, linkedit_pointer_break, stray_pointer_break, recorded_pointer_break, place_break}
 use Rattle.load_model.specs.Corresponds.{IsWordOf, Leads, loaded_side}
 use Rattle.load_model.proofs.LoadingLaws.{AreApart}
-use Rattle.load_model.proofs.Unbroken.{neither}
 use Rattle.load_model.proofs.WordCases.{IsIn, in_cases, in_none, IsImageOf, word_cases}
 use Rattle.load_model.proofs.LoadedWords.{IsReadImage, bound_leads, free_leads}
 use Rattle.load_model.proofs.LoadedReferences.{HaveBytes, reference_leads}
@@ -77,7 +76,7 @@ pub unbroken_each : {X : Type 0} (breaks : X → Option Site) (n : ℕ) (xs : Li
 unfolding in_each
 unbroken_each breaks n [] x none there = absurd (in_none x there)
 unbroken_each {X = X} breaks n (y ∷ ys) x none there =
-    let two = neither (option_map {T = Site} {U = Break} (in_image n) (breaks y)) (in_each breaks (n + 1) ys) none in
+    let two = or_none (option_map {T = Site} {U = Break} (in_image n) (breaks y)) (in_each breaks (n + 1) ys) none in
     elim (in_cases y ys x there) [
       | inl is ↦ subst (λ (z : X). breaks z ≡ None) is (no_site n (breaks y) two.0)
       | inr later ↦ unbroken_each breaks (n + 1) ys x two.1 later

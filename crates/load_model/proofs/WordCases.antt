@@ -2,7 +2,7 @@
 use Rattle.std.proofs.Common.{◌≡◌, ◌⊎◌, ℕ, zero, suc, Bool, true, false, not, Option, Some, List, [], ◌∷◌, ◌++◌, map, refl, sym, ap, ap₂, ◌∙◌, subst, inl, inr}
 use Rattle.std.specs.Prelude.{filter, slice_get}
 use Rattle.std.specs.List.{All}
-use Rattle.std.proofs.lemmas.Bool.{cond-true, cond-false, cases_Bool}
+use Rattle.std.proofs.lemmas.Bool.{cond-true, cond-false, cases_Bool, not-true}
 use Rattle.std.proofs.lemmas.Option.{same_Some, slice_get_within, get_or_from_slice_get}
 use Rattle.macho_image.specs.Records.{Img}
 use Rattle.macho_image.specs.declared.section.Section.{Section}
@@ -160,10 +160,6 @@ pub record IsOther (k : ℕ) (i : Img) (s : StreamLists) (w : Word) : Type 0 whe
   pub other : is_pointer reference.kind ≡ false
   pub is : w ≡ other_word k i reference
 
-not_true : (b : Bool) → not b ≡ true → b ≡ false
-not_true true is = absurd (cc)
-not_true false is = refl
-
 -- a pointer is a word that is bound, or a rebase that isn't
 pub record IsBoundPointer (set : ImageSet) (k : ℕ) (s : StreamLists) (w : PlacedWord) : Type 0 where
   pub bind : BoundWord
@@ -186,7 +182,7 @@ pointer_kinds set k i s w there =
           let kept : List Location = filter (is_free (is_bound s.binds)) s.rebases in
           let r : IsOf (rebased_word k i.segments (pointer_at s.references)) kept w = of_map (rebased_word k i.segments (pointer_at s.references)) kept w rebased in
           let f = of_filter (is_free (is_bound s.binds)) s.rebases r.from r.there in
-          inr (record { place = r.from; there = f.0; free = not_true (is_bound s.binds r.from.address) f.1; is = r.is })
+          inr (record { place = r.from; there = f.0; free = not-true (is_bound s.binds r.from.address) f.1; is = r.is })
     ]
 
 pub other_of : (k : ℕ) (i : Img) (s : StreamLists) (w : Word) → IsIn (map (other_word k i) (filter is_no_pointer s.references)) w → IsOther k i s w
@@ -194,7 +190,7 @@ other_of k i s w there =
     let others : List Reference = filter is_no_pointer s.references in
     let r : IsOf (other_word k i) others w = of_map (other_word k i) others w there in
     let f = of_filter is_no_pointer s.references r.from r.there in
-    record { reference = r.from; there = f.0; other = not_true (is_pointer r.from.kind) f.1; is = r.is }
+    record { reference = r.from; there = f.0; other = not-true (is_pointer r.from.kind) f.1; is = r.is }
 
 pub word_cases : (set : ImageSet) (k : ℕ) (i : Img) (s : StreamLists) (w : Word) → IsImageOf set k i s → IsWordOf (words_of set k) w → IsBound set k s w ⊎ (IsRebased k i s w ⊎ IsOther k i s w)
 word_cases set k i s w of is =

@@ -1,8 +1,8 @@
 -- Each word of an image stands in one of its sections, and an address of a section is in no other one.
-use Rattle.std.proofs.Common.{◌≡◌, ◌≤◌, ◌<◌, ℕ, ◌+◌, ◌-◌, true, Option, Some, None, List, get_or, refl, sym, ap, ◌∙◌, subst, arith, inl, inr, nat_eq}
+use Rattle.std.proofs.Common.{◌≡◌, ◌≤◌, ◌<◌, ℕ, ◌+◌, ◌-◌, true, Option, Some, None, List, get_or, refl, sym, ap, ◌∙◌, subst, arith, inl, inr}
 use Rattle.std.specs.Prelude.{slice_get, option_map, unwrap_or}
 use Rattle.std.specs.List.{position}
-use Rattle.std.proofs.lemmas.Bool.{cases_lt, ne_eqb, cond-false, false≢true}
+use Rattle.std.proofs.lemmas.Bool.{cases_lt, false≢true}
 use Rattle.std.proofs.lemmas.Bool.Decides.{nat_tests}
 use Rattle.std.proofs.lemmas.List.Quantifiers.{position-Some}
 use Rattle.std.proofs.lemmas.Option.{slice_get-get_or, slice_get_within, get_or_from_slice_get}
@@ -12,7 +12,7 @@ use Rattle.macho_image.specs.declared.section.Section.{Section}
 use Rattle.macho_image.specs.declared.place.Location.{Location}
 use Rattle.macho_image.specs.declared.places.segment_index.Inside.{Inside}
 use Rattle.macho_image.specs.Places.{holds, section_around, numbered_section, IsWord, Precedes}
-use Rattle.macho_image.proofs.SectionLaws.{IsHeld, held, sections_in_order}
+use Rattle.macho_image.proofs.SectionLaws.{IsHeld, held, sections_in_order, numbered}
 use Rattle.macho_image.proofs.SegmentLaws.{inside_here}
 use Rattle.macho_image.proofs.SoundSegments.{segments_keep_apart}
 use Rattle.split_info.specs.declared.reference.Reference.{Reference}
@@ -38,10 +38,6 @@ pub record StandsIn (i : Img) (l : Location) (width : ℕ) : Type 0 where
   pub offset : ℕ
   pub place : l.address ≡ section.addr + offset
   pub within : offset + width ≤ section.size
-
--- a section by its number, which counts from 1
-numbered : (xs : List Section) (n : ℕ) (x : Section) → 1 ≤ n → slice_get xs (n - 1) ≡ Some x → numbered_section xs n ≡ Some x
-numbered xs n x counts got = cond-false (nat_eq n 0) None (slice_get xs (n - 1)) (ne_eqb n 0 (λ none. omega (arith, none, counts))) ∙ got
 
 pub word_stands_in : (i : Img) (l : Location) → IsWord i l → StandsIn i l 8
 word_stands_in i l word = record {

@@ -1,39 +1,19 @@
 -- The first rule that a set of files breaks before it is laid out: by phase, then by image, then by the groups of a phase. Each group is the definition of the crate that refuses it.
-use Rattle.std.specs.Prelude.{ℕ, ◌+◌, Option, None, unwrap_or, option_map, List, [], ◌∷◌, length, map, Vec}
-use Rattle.std.specs.declared.alloc.Global.{Global}
+use Rattle.std.specs.Prelude.{ℕ, ◌+◌, Option, None, option_map, List, [], ◌∷◌, length, map}
 use Rattle.std.specs.List.{range_with_len}
 use Rattle.std.specs.Option.{option_or}
 use Rattle.dsc_base.specs.declared.fault.Site.{Site}
 use Rattle.dsc_base.specs.declared.fault.Break.{Break}
 use Rattle.dsc_base.specs.Refusals.{first_break, in_image, in_each}
-use Rattle.macho_image.specs.declared.form.Form.TheVariants.{Standalone}
 use Rattle.macho_image.specs.Records.{Img}
-use Rattle.macho_image.specs.Macho.{image_of}
-use Rattle.macho_image.specs.Universal.{slice_of, bytes_of, slice_break}
-use Rattle.macho_image.specs.Breaks.{image_break}
+pub use Rattle.macho_image.specs.Files.{contents, images_of}
+unfoldable pub use Rattle.macho_image.specs.Files.{dylib_of, shape_break}
 use Rattle.macho_image.specs.TableRules.{table_break}
 use Rattle.dep_closure.specs.Breaks.{link_break}
 use Rattle.prebind.specs.Sets.{ImageSet, streams_break, image_set}
 use Rattle.prebind.specs.Places.{export_break}
 use Rattle.prebind.specs.WordRules.{place_break}
 use Rattle.load_model.specs.Sums.{record_count, name_bytes, sums_break}
-
--- the bytes of files
-abbrev pub contents : List (Vec ℕ Global) → List (List ℕ)
-contents files = map (λ (f : Vec ℕ Global). f.items) files
-
--- the dylib of a file: the bytes of its slice, and none where it has no slice
-unfoldable pub dylib_of : List ℕ → List ℕ
-dylib_of file = unwrap_or (option_map (bytes_of file) (slice_of file)) []
-
--- the images that the dylibs of files spell
-abbrev pub images_of : List (List ℕ) → List Img
-images_of files = map (λ (file : List ℕ). image_of (dylib_of file) 0) files
-
--- ---- phase one: the slice of a file, and the shape of the dylib there
-
-unfoldable pub shape_break : List ℕ → Option Site
-shape_break file = option_or (slice_break file) (image_break Standalone (dylib_of file) 0)
 
 -- ---- phase two: the streams and tables of an image, and then how much the images up to it have
 

@@ -2,7 +2,6 @@
 //! and linked into the set that is loaded.
 #![tactic(auto)]
 
-mod accept;
 mod linkedits;
 mod loaded;
 mod loading;
@@ -11,6 +10,8 @@ mod symbols;
 #[cfg(test)]
 mod tests;
 
+pub use linkedits::{check_sums, names_with};
 pub use loaded::LoadedSegment;
 pub use loading::load_image;
 pub use set::{FileSet, read_files};
+pub use symbols::check_all_exports;

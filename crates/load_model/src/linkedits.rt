@@ -34,7 +34,7 @@ fn records_with(before: u64, streams: &ImageStreams<'_>) -> u64
 }
 
 /// How many bytes the names of exports have behind others; no more than a number has room for.
-fn names_with(before: u64, exports: &[Export]) -> u64
+pub fn names_with(before: u64, exports: &[Export]) -> u64
     ensures { result ≡ min (before + sums.bytes_in exports.now) (2 ^ 64 - 1) }
 {
     let mut total = before;
@@ -44,9 +44,10 @@ fn names_with(before: u64, exports: &[Export]) -> u64
     total
 }
 
-/// Rule 119: what the images up to one have together is too much.
+/// Refuses `SetTooLarge` where so many records, or names of so many bytes, are more than the images up to one
+/// may have together.
 #[tactic(auto, unfolding(crate::specs::Sums::sums_break))]
-fn check_sums(records: u64, names: u64) -> Result<(), Fault>
+pub fn check_sums(records: u64, names: u64) -> Result<(), Fault>
     ensures { Refuses (sums.sums_break records names) result }
 {
     if records > SET_RECORD_LIMIT || names > EXPORT_NAMES_LIMIT {

@@ -7,12 +7,11 @@ ghost use Rattle.prebind.specs.Sets.{lists_of, image_set, IsSoundSet};
 ghost use Rattle.load_model.specs.Phases.{contents, images_of, symbols_break, files_break};
 ghost use Rattle.load_model.specs.Placed.{AreAllPlaced};
 
-use crate::accept::accept_all;
 use crate::linkedits::read_linkedits;
 use crate::symbols::{check_all_exports, place_all_words};
 use dep_closure::{Links, link_set};
 use dsc_base::SetFault;
-use macho_image::Image;
+use macho_image::{Image, read_images};
 use nlist_table::Tables;
 use prebind::{ImageStreams, PlacedWord, Set};
 use std::alloc::Global;
@@ -45,7 +44,7 @@ pub fn read_files<'a>(alloc: Global, files: &'a [Vec<u8>]) -> Result<FileSet<'a>
     ensures words { IfOk result (λ s. AreAllPlaced (image_set (images_of (contents files.entry.now))) s.words.items) }
     ensures cause { RefusesSet (files_break (contents files.entry.now)) result }
 {
-    let images = match accept_all(alloc, files) {
+    let images = match read_images(alloc, files) {
         Ok(images) => images,
         Err(fault) => return Err(fault),
     };

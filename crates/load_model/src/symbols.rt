@@ -13,8 +13,9 @@ use dsc_base::SetFault;
 use prebind::{PlacedWord, Set, check_exports, index_set, place_words_by};
 use std::alloc::Global;
 
-/// Refuses the first export that leads into no segment or into `__LINKEDIT`.
-pub(crate) fn check_all_exports(alloc: Global, set: &Set<'_, '_>) -> Result<(), SetFault>
+/// Refuses `ExportOutside` of the first image of a set with an export that leads into no segment or into
+/// `__LINKEDIT`, as `check_exports` does. `Memory` says that memory ran out.
+pub fn check_all_exports(alloc: Global, set: &Set<'_, '_>) -> Result<(), SetFault>
     requires sound { IsSoundSet (set_of set.now) }
     ensures { RefusesSet (first_of (export_break (set_of set.now)) (length set.now.images.now)) result }
 {

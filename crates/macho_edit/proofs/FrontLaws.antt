@@ -6,7 +6,7 @@ use Rattle.std.proofs.lemmas.List.{length-take-le, take-append-le, drop-append-l
 use Rattle.std.specs.Int.Bits.{bit_or, bit_and, or_add_and}
 use Rattle.std.proofs.lemmas.Nat.Bits.{and_high}
 use Rattle.std.proofs.lemmas.Nat.{and_mask}
-use Rattle.std.proofs.lemmas.Bool.{cond-true, cond-false}
+use Rattle.std.proofs.lemmas.Bool.{cond-true, cond-false, leb-true}
 use Rattle.std.proofs.lemmas.Bool.Decides.{nat_tests}
 use Rattle.dsc_base.specs.Numbers.{number_at, put_number, little_bytes}
 use Rattle.dsc_base.specs.Region.{padded}
@@ -20,7 +20,7 @@ use Rattle.macho_image.specs.Rules.{breaks_command_shape, says_cached}
 use Rattle.macho_image.proofs.CommandLaws.{AreCommands, shape_joins}
 use Rattle.macho_edit.specs.declared.spots.LinkSpots.{LinkSpots}
 use Rattle.macho_edit.specs.Cached.{is_kept, in_cache, out_of_cache, flags_in, formed_front, kept_commands, formed_header, formed_bytes, unrebased, cached_front, cached_commands, kept_header, cached_bytes, standalone_bytes}
-use Rattle.macho_edit.proofs.BoolLaws.{bool_cases, true_le}
+use Rattle.macho_edit.proofs.BoolLaws.{bool_cases}
 use Rattle.macho_edit.proofs.CopyLaws.{command_shape}
 use Rattle.macho_edit.proofs.LengthLaws.{moved_commands_fit, kept_whole, kept_fit}
 
@@ -126,7 +126,7 @@ flag_set flags fits =
           let low : flags < 0x8000_0000 = grind (arith, nat_tests) in
           omega (arith, high, both, low) ∙ sym (cond-false (says_cached flags) flags (flags + 0x8000_0000) clear)
       | inr set ↦
-          let up : 0x8000_0000 ≤ flags = true_le 0x8000_0000 flags set in
+          let up : 0x8000_0000 ≤ flags = leb-true 0x8000_0000 flags set in
           omega (arith, high, both, up) ∙ sym (cond-true (says_cached flags) flags (flags + 0x8000_0000) set)
     ]
 
@@ -139,6 +139,6 @@ flag_clear flags fits =
           let below : flags < 0x8000_0000 = grind (arith, nat_tests) in
           omega (arith, low, below) ∙ sym (cond-false (says_cached flags) (flags - 0x8000_0000) flags clear)
       | inr set ↦
-          let up : 0x8000_0000 ≤ flags = true_le 0x8000_0000 flags set in
+          let up : 0x8000_0000 ≤ flags = leb-true 0x8000_0000 flags set in
           omega (arith, low, up) ∙ sym (cond-true (says_cached flags) (flags - 0x8000_0000) flags set)
     ]

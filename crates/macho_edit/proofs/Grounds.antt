@@ -1,32 +1,33 @@
 -- What is known of the commands and segments of a sound image whose header is placed.
-use Rattle.std.proofs.Common.{◌≡◌, ◌≤◌, ◌<◌, inl, inr, ℕ, zero, suc, ◌+◌, ◌-◌, ◌*◌, ◌/◌, ◌^◌, Bool, true, false, not, ◌&&◌, ◌||◌, nat_eq, nat_lt, if◌then◌else◌, None, List, [], ◌∷◌, drop, map, length, get_or, refl, sym, ap, ap₂, ◌∙◌, subst, arith}
+use Rattle.std.proofs.Common.{◌≡◌, ◌≤◌, ◌<◌, inl, inr, ℕ, zero, suc, ◌+◌, ◌-◌, ◌*◌, ◌/◌, ◌^◌, Bool, true, false, not, ◌&&◌, nat_eq, nat_lt, if◌then◌else◌, None, List, [], ◌∷◌, map, length, get_or, refl, sym, ap, ap₂, ◌∙◌, subst, arith}
 use Rattle.std.specs.List.{AllByRecursion}
-use Rattle.std.proofs.lemmas.Bool.{cond-true, cond-false, eqb-true}
+use Rattle.std.proofs.lemmas.Bool.{cond-true, cond-false, eqb-true, and_parts, or_parts, ltb-false}
 use Rattle.std.proofs.lemmas.Bool.Decides.{nat_tests}
-use Rattle.std.proofs.lemmas.List.{length-map}
 use Rattle.dsc_base.specs.Numbers.{number_at}
 use Rattle.macho_image.specs.declared.form.Form.{Form}
 use Rattle.macho_image.specs.declared.form.Form.TheVariants.{Standalone, Cached}
 use Rattle.macho_image.specs.declared.place.Moved.{Moved}
 use Rattle.macho_image.specs.Records.{Img, Seg, Load, SegmentLoad}
-use Rattle.macho_image.specs.Macho.{number_of, is_segment, loads_from, loads_of, header_size, segment_load, segment_loads, segment_with, sections_in}
+use Rattle.macho_image.specs.Macho.{number_of, is_segment, loads_from, loads_of, header_size, segment_load, segment_loads, segment_with}
 use Rattle.macho_image.specs.Rules.{first_segment, first_crossing, says_cached, is_well_shaped, misplaced, misplaced_behind, is_good_text, is_good_linkedit, has_reserved_name, is_linkedit, is_linkedit_name, is_linkedit_segment, is_text}
 use Rattle.dsc_base.specs.Refusals.{least}
 use Rattle.macho_image.specs.Breaks.{form_of, unread, IsSound}
 use Rattle.macho_image.proofs.CommandLaws.{IsWholeCommand}
-use Rattle.macho_image.proofs.Unbroken.{least_none_both}
+use Rattle.macho_image.proofs.Unbroken.{least_none_both, when_false, when_true}
 use Rattle.macho_edit.specs.declared.segment.SegmentPlace.{SegmentPlace}
 use Rattle.macho_edit.specs.declared.spots.LinkSpots.{LinkSpots}
 use Rattle.macho_edit.specs.Segments.{place_for}
 use Rattle.macho_edit.specs.Cached.{in_cache, flags_in}
 use Rattle.macho_edit.specs.Placed.{places_of, IsSeated, AreApart}
 use Rattle.macho_edit.proofs.PlaceLaws.{place_other, place_linkedit}
-use Rattle.macho_edit.proofs.BoolLaws.{bool_cases, clash, and_parts, not_false, or_neither, when_false, lower_not}
-use Rattle.macho_edit.proofs.SoundLaws.{sound_rules}
+use Rattle.macho_edit.proofs.BoolLaws.{bool_cases, clash}
 use Rattle.macho_edit.proofs.MovedSegments.{FitsPlace, IsSegmentBytes}
 use Rattle.macho_edit.proofs.MovedCommands.{IsGoodCommand, load_places, segments_yes, segments_no}
-use Rattle.macho_edit.proofs.KeptSections.{IsShaped, shaped_from, IsWholeMove}
-use Rattle.macho_edit.proofs.KeptSegments.{AreSeated, AllApart, StartsAt, LinkeditAt, text_other, IsGoodText, good_text, good_or, none_parts}
+use Rattle.macho_edit.proofs.KeptSections.{IsWholeMove}
+use Rattle.macho_edit.proofs.KeptSegments.{AreSeated, AllApart, StartsAt, LinkeditAt, text_other, IsGoodText, good_text}
+use Rattle.macho_image.proofs.HeaderRules.{sound_rules, IsShaped}
+use Rattle.macho_image.proofs.SectionLaws.{sections_room}
+use Rattle.macho_image.proofs.SoundSegments.{loads_length}
 
 -- the places of segments are those of their commands
 pub places_from : (spots : LinkSpots) (moves : List Moved) (segs : List Seg) (ss : List SegmentLoad) → map unread segs ≡ map (segment_with []) ss → places_of spots moves segs ≡ load_places spots moves ss
@@ -38,20 +39,6 @@ places_from spots (m ∷ ms) (g ∷ gs) (s ∷ ss) same =
     let here : unread g ≡ segment_with [] s = cc in
     let later : map unread gs ≡ map (segment_with []) ss = cc in
     ap₂ (λ (p : SegmentPlace) (ps : List SegmentPlace). p ∷ ps) (ap (λ (x : Seg). place_for spots m x.name x.vmsize) here) (places_from spots ms gs ss later)
-
-pub loads_length : (segs : List Seg) (ss : List SegmentLoad) → map unread segs ≡ map (segment_with []) ss → length segs ≡ length ss
-loads_length segs ss same = sym (length-map segs unread) ∙ (ap length same ∙ length-map ss (segment_with []))
-
--- what a test of segments says of each
-pub all_fail : (q : SegmentLoad → Bool) (ss : List SegmentLoad) → first_segment q ss ≡ None → AllByRecursion (λ s. q s ≡ false) ss
-all_fail q [] none = tt
-all_fail q (s ∷ ss) none =
-    let parts = none_parts q s ss none in
-    (parts.0, all_fail q ss parts.1)
-
-pub all_shaped : (ss : List SegmentLoad) → AllByRecursion (λ s. not (is_well_shaped s) ≡ false) ss → AllByRecursion IsShaped ss
-all_shaped [] well = tt
-all_shaped (s ∷ ss) well = (shaped_from s (not_false (is_well_shaped s) well.0), all_shaped ss well.1)
 
 -- a well-shaped segment is its 72 bytes and whole sections
 segment_bytes : (l : Load) → IsShaped (segment_load l) → IsSegmentBytes l.bytes
@@ -77,19 +64,11 @@ commands_good at (c ∷ cs) whole shaped =
 abbrev pub HasRoom : SegmentLoad → Type 0
 HasRoom s = length s.sections ≡ (s.size - 72) / 80
 
-length-sections_in : (n : ℕ) (bytes : List ℕ) → length (sections_in n bytes) ≡ n
-length-sections_in zero bytes = refl
-length-sections_in (suc n) bytes = ap suc (length-sections_in n (drop 80 bytes))
-
-room_here : (l : Load) → HasRoom (segment_load l)
-unfolding segment_load
-room_here l = length-sections_in ((length l.bytes - 72) / 80) (drop 72 l.bytes)
-
 pub all_room : (ls : List Load) → AllByRecursion HasRoom (segment_loads ls)
 all_room [] = tt
 all_room (l ∷ ls) = elim (bool_cases (is_segment (number_of l.bytes))) [
   | inl other ↦ subst (λ (ss : List SegmentLoad). AllByRecursion HasRoom ss) (sym (segments_no l ls other)) (all_room ls)
-  | inr is ↦ subst (λ (ss : List SegmentLoad). AllByRecursion HasRoom ss) (sym (segments_yes l ls is)) (room_here l, all_room ls)
+  | inr is ↦ subst (λ (ss : List SegmentLoad). AllByRecursion HasRoom ss) (sym (segments_yes l ls is)) (sections_room l, all_room ls)
 ]
 
 -- `__LINKEDIT` has no sections
@@ -99,22 +78,18 @@ IsBare s = is_linkedit s ≡ true → s.nsects ≡ 0
 bare_behind : (ss : List SegmentLoad) → misplaced_behind ss ≡ None → AllByRecursion IsBare ss
 bare_behind [] none = tt
 bare_behind (s ∷ []) none =
-    let good : is_good_linkedit s ≡ true = (good_or (is_good_linkedit s) s.at None none).0 in
+    let good : is_good_linkedit s ≡ true = (when_true (is_good_linkedit s) s.at None none).0 in
     let one = and_parts (is_linkedit s) (nat_eq s.initprot 1 && nat_eq s.nsects 0) good in
     let two = and_parts (nat_eq s.initprot 1) (nat_eq s.nsects 0) one.1 in
     (λ _. eqb-true s.nsects 0 two.1, tt)
 bare_behind (s ∷ t ∷ ss) none =
     let parts = when_false (has_reserved_name s) s.at (misplaced_behind (t ∷ ss)) none in
-    (λ linkedit. absurd (clash (is_linkedit s) linkedit (second (is_text s) (is_linkedit s) parts.0)), bare_behind (t ∷ ss) parts.1)
-  where
-    second : (a b : Bool) → (a || b) ≡ false → b ≡ false
-    second true b e = absurd (cc)
-    second false b e = e
+    (λ linkedit. absurd (clash (is_linkedit s) linkedit (or_parts (is_text s) (is_linkedit s) parts.0).1), bare_behind (t ∷ ss) parts.1)
 
 pub all_bare : (size : ℕ) (ss : List SegmentLoad) → misplaced size ss ≡ None → AllByRecursion IsBare ss
 all_bare size [] none = tt
 all_bare size (s ∷ ss) none =
-    let parts = good_or (is_good_text size s) s.at (misplaced_behind ss) none in
+    let parts = when_true (is_good_text size s) s.at (misplaced_behind ss) none in
     let good : IsGoodText size s = good_text size s parts.0 in
     (λ linkedit. absurd (clash (is_linkedit s) linkedit (text_other s.name good.named)), bare_behind ss parts.1)
 
@@ -193,7 +168,7 @@ first_text size h spots [] [] len many none shaped low first = absurd (omega ari
 first_text size h spots [] (s ∷ ss) len many none shaped low first = absurd (omega arith)
 first_text size h spots (m ∷ ms) [] len many none shaped low first = absurd (omega arith)
 first_text size h spots (m ∷ ms) (s ∷ ss) len many none shaped low first =
-    let parts = good_or (is_good_text size s) s.at (misplaced_behind ss) none in
+    let parts = when_true (is_good_text size s) s.at (misplaced_behind ss) none in
     let good : IsGoodText size s = good_text size s parts.0 in
     let other : is_linkedit s ≡ false = text_other s.name good.named in
     let below : m.file + s.vmsize < 2 ^ 32 = low.0 other in
@@ -236,13 +211,13 @@ LinkeditLast ss k s = (k + 1 ≡ length ss → is_linkedit (get_or ss k s) ≡ t
 linkedit_behind : (ss : List SegmentLoad) → misplaced_behind ss ≡ None → (k : ℕ) (s : SegmentLoad) → k < length ss → LinkeditLast ss k s
 linkedit_behind [] none k s lt = absurd (omega arith)
 linkedit_behind (t ∷ []) none zero s lt = (
-  λ _. (and_parts (is_linkedit t) (nat_eq t.initprot 1 && nat_eq t.nsects 0) (good_or (is_good_linkedit t) t.at None none).0).0,
+  λ _. (and_parts (is_linkedit t) (nat_eq t.initprot 1 && nat_eq t.nsects 0) (when_true (is_good_linkedit t) t.at None none).0).0,
   λ more. absurd (omega arith),
 )
 linkedit_behind (t ∷ []) none (suc k) s lt = absurd (omega arith)
 linkedit_behind (t ∷ u ∷ ss) none zero s lt =
     let parts = when_false (has_reserved_name t) t.at (misplaced_behind (u ∷ ss)) none in
-    (λ last. absurd (omega arith), λ _. (or_neither (is_text t) (is_linkedit t) parts.0).1)
+    (λ last. absurd (omega arith), λ _. (or_parts (is_text t) (is_linkedit t) parts.0).1)
 linkedit_behind (t ∷ u ∷ ss) none (suc k) s lt =
     let parts = when_false (has_reserved_name t) t.at (misplaced_behind (u ∷ ss)) none in
     let later : LinkeditLast (u ∷ ss) k s = linkedit_behind (u ∷ ss) parts.1 k s (omega arith) in
@@ -251,11 +226,11 @@ linkedit_behind (t ∷ u ∷ ss) none (suc k) s lt =
 linkedit_load : (size : ℕ) (ss : List SegmentLoad) → 2 ≤ length ss → misplaced size ss ≡ None → (k : ℕ) (s : SegmentLoad) → k < length ss → LinkeditLast ss k s
 linkedit_load size [] many none k s lt = absurd (omega arith)
 linkedit_load size (t ∷ ss) many none zero s lt =
-    let parts = good_or (is_good_text size t) t.at (misplaced_behind ss) none in
+    let parts = when_true (is_good_text size t) t.at (misplaced_behind ss) none in
     let good : IsGoodText size t = good_text size t parts.0 in
     (λ last. absurd (omega arith), λ _. text_other t.name good.named)
 linkedit_load size (t ∷ ss) many none (suc k) s lt =
-    let parts = good_or (is_good_text size t) t.at (misplaced_behind ss) none in
+    let parts = when_true (is_good_text size t) t.at (misplaced_behind ss) none in
     let later : LinkeditLast ss k s = linkedit_behind ss parts.1 k s (omega arith) in
     (λ last. later.0 (omega arith), λ more. later.1 (omega arith))
 
@@ -282,6 +257,6 @@ linkedit_last image sound k g lt =
     let parts = least_none_both (first_segment (λ s. not (is_well_shaped s)) ss) (least (first_crossing [] ss) (misplaced (header_size header) ss)) many.1 in
     let rest = least_none_both (first_crossing [] ss) (misplaced (header_size header) ss) parts.1 in
     let load : SegmentLoad = record { at = 0; size = 0; name = []; vmaddr = 0; vmsize = 0; fileoff = 0; filesize = 0; maxprot = 0; initprot = 0; nsects = 0; flags = 0; sections = [] } in
-    let last : LinkeditLast ss k load = linkedit_load (header_size header) ss (lower_not (length ss) 2 many.0) rest.1 k load (omega arith) in
+    let last : LinkeditLast ss k load = linkedit_load (header_size header) ss (ltb-false (length ss) 2 many.0) rest.1 k load (omega arith) in
     let named : (get_or image.segments k g).name ≡ (get_or ss k load).name = same_name_at image.segments ss k g load sound.segments lt in
     (λ final. ap is_linkedit_name named ∙ last.0 (omega arith), λ more. ap is_linkedit_name named ∙ last.1 (omega arith))

@@ -1,7 +1,7 @@
 -- The header of a form is its front with the commands behind it, which are whole.
 use Rattle.std.proofs.Common.{◌≡◌, ◌≤◌, ◌<◌, inl, inr, ℕ, ◌+◌, ◌*◌, ◌%◌, ◌^◌, Bool, true, ◌&&◌, nat_eq, nat_le, nat_lt, Some, None, List, [], ◌∷◌, ◌++◌, take, drop, length, refl, sym, ap, ap₂, ◌∙◌, subst, arith, length-append}
 use Rattle.std.specs.List.{concat, AllByRecursion}
-use Rattle.std.proofs.lemmas.Bool.{cond-true, cond-false}
+use Rattle.std.proofs.lemmas.Bool.{cond-true, cond-false, le-ltb}
 use Rattle.std.proofs.lemmas.Bool.Decides.{nat_tests}
 use Rattle.std.proofs.lemmas.List.{length-take-le, drop_at, append-nil}
 use Rattle.dsc_base.specs.Numbers.{number_at, put_number}
@@ -13,7 +13,6 @@ use Rattle.macho_image.specs.Rules.{misshapen, begins_whole, least_size, breaks_
 use Rattle.macho_image.proofs.CommandLaws.{IsSized, IsWholeCommand, commands_in-joined}
 use Rattle.macho_edit.specs.declared.spots.LinkSpots.{LinkSpots}
 use Rattle.macho_edit.specs.Cached.{flags_in, formed_front, kept_commands, formed_header}
-use Rattle.macho_edit.proofs.BoolLaws.{not_lower}
 use Rattle.macho_edit.proofs.LengthLaws.{length-spotted}
 use Rattle.macho_edit.proofs.TableLaws.{spotted_front}
 use Rattle.macho_edit.proofs.FrontLaws.{length-formed_front, commands_fit}
@@ -141,6 +140,6 @@ kept_header_is form spots moves header six front shape small flags whole =
       flags = number_at-append_left 4 f (concat cs) 24 (omega arith) ∙ (puts.flags ∙ ap (flags_in form) told);
       commands = commands;
       loads = ap (λ (ds : List (List ℕ)). loads_from 32 ds) commands;
-      shape = cond-false (nat_lt (length (f ++ concat cs)) (header_size (f ++ concat cs))) (Some 20) (misshapen (number_at 4 (f ++ concat cs) 16) 32 (drop 32 (f ++ concat cs))) (not_lower (length (f ++ concat cs)) (header_size (f ++ concat cs)) (omega arith))
+      shape = cond-false (nat_lt (length (f ++ concat cs)) (header_size (f ++ concat cs))) (Some 20) (misshapen (number_at 4 (f ++ concat cs) 16) 32 (drop 32 (f ++ concat cs))) (le-ltb (length (f ++ concat cs)) (header_size (f ++ concat cs)) (omega arith))
           ∙ (ap₂ (λ (n : ℕ) (b : List ℕ). misshapen n 32 b) count tail ∙ misshapen-joined 32 cs whole);
     }

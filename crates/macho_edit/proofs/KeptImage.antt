@@ -10,12 +10,13 @@ use Rattle.macho_image.specs.Breaks.{unread}
 use Rattle.macho_edit.specs.declared.segment.SegmentPlace.{SegmentPlace}
 use Rattle.macho_edit.specs.Segments.{section_address}
 use Rattle.macho_edit.specs.MovedImage.{seated, seated_all, followed}
-use Rattle.macho_edit.proofs.BoolLaws.{bool_cases, not_false}
+use Rattle.macho_edit.proofs.BoolLaws.{bool_cases}
 use Rattle.macho_edit.proofs.MovedSections.{placed_section}
 use Rattle.macho_edit.proofs.MovedSegments.{placed_load}
 use Rattle.macho_edit.proofs.MovedCommands.{Follow}
 use Rattle.macho_edit.proofs.KeptSections.{IsSeatedLoad, address_in, all_inside}
 use Rattle.macho_edit.proofs.KeptSegments.{AreSeated, no_sections}
+use Rattle.std.proofs.lemmas.Bool.{not-false}
 
 -- a segment with its bytes at its place
 segment_seated : (b : List ℕ) (p : SegmentPlace) (at : ℕ) (g : Seg) (s : SegmentLoad) → unread g ≡ segment_with [] s → segment_of b (placed_load p at s) ≡ seated b p g
@@ -92,7 +93,7 @@ sections_followed segs places n size k (p ∷ ps) (s ∷ ss) (t ∷ ts) follow a
       | inl other ↦
           ap (map (section_of k)) moved
           ∙ sections_placed segs places k n p s s.sections (ap (λ (m : ℕ). get_or (map (λ (g : Seg). g.vmaddr) segs) m 0) (sym none) ∙ start 0) (ap (λ (m : ℕ). get_or (addresses_of places) m 0) (sym none) ∙ place 0) are.0 other
-          (all_inside s (sections_start size s) 0 s.sections (not_false (sections_stand s (sections_start size s) 0 s.sections) stand.0))
+          (all_inside s (sections_start size s) 0 s.sections (not-false (sections_stand s (sections_start size s) 0 s.sections) stand.0))
       | inr linkedit ↦
           let bare : s.sections ≡ [] = no_sections n p s are.0 linkedit in
           ap (map (section_of k)) (moved ∙ ap (map (placed_section p s.vmaddr)) bare) ∙ sym (ap (λ (xs : List SectionLoad). map (followed segs places) (map (section_of k) xs)) bare)

@@ -1,6 +1,6 @@
 -- Rules 14 and 17: no command that is moved names relocations, or a range outside the linkedit.
 use Rattle.std.proofs.Common.{◌≡◌, ◌≤◌, ◌<◌, inl, inr, ℕ, ◌+◌, ◌*◌, ◌/◌, Bool, true, false, not, ◌&&◌, ◌||◌, nat_eq, nat_le, nat_lt, if◌then◌else◌, None, List, [], ◌∷◌, refl, ap, ap₂, ◌∙◌, arith}
-use Rattle.std.proofs.lemmas.Bool.{cond-false, eqb-true}
+use Rattle.std.proofs.lemmas.Bool.{cond-false, eqb-true, le-leb, and_from}
 use Rattle.std.proofs.lemmas.Bool.Decides.{nat_tests}
 use Rattle.dsc_base.specs.Numbers.{number_at}
 use Rattle.dsc_base.specs.declared.fault.Span.{Span}
@@ -10,7 +10,7 @@ use Rattle.macho_edit.specs.declared.spots.LinkSpots.{LinkSpots}
 use Rattle.macho_edit.specs.Placed.{IsLinked}
 use Rattle.macho_edit.specs.Tables.{words_for, start_of}
 use Rattle.macho_edit.specs.Cached.{is_dropped}
-use Rattle.macho_edit.proofs.BoolLaws.{bool_cases, le_true, and_true}
+use Rattle.macho_edit.proofs.BoolLaws.{bool_cases}
 use Rattle.macho_edit.proofs.LengthLaws.{Info, Symtab, Dysymtab, Starts, InCode, Other, table_kind}
 use Rattle.macho_edit.proofs.MovedSegments.{SameCommand}
 use Rattle.macho_edit.proofs.MovedCommands.{IsMoved, AreMoved}
@@ -53,7 +53,7 @@ inside_range low high offset size inside = elim (bool_cases (nat_lt 0 size)) [
   | inr some ↦
       let more : 0 < size = grind (arith, nat_tests) in
       let both = inside more in
-      ap (λ (b : Bool). nat_lt 0 size && not b) (and_true (nat_le low offset) (nat_le (offset + size) high) (le_true low offset both.0) (le_true (offset + size) high both.1)) ∙ last (nat_lt 0 size)
+      ap (λ (b : Bool). nat_lt 0 size && not b) (and_from (nat_le low offset) (nat_le (offset + size) high) (le-leb low offset both.0) (le-leb (offset + size) high both.1)) ∙ last (nat_lt 0 size)
 ]
   where
     last : (b : Bool) → (b && false) ≡ false

@@ -1,40 +1,22 @@
 -- Sections stand in a segment at a place as they stand in the segment.
 use Rattle.std.proofs.Common.{◌≡◌, ◌≤◌, ◌<◌, ℕ, ◌+◌, ◌-◌, ◌*◌, ◌/◌, ◌%◌, ◌^◌, Bool, true, false, ◌||◌, nat_eq, nat_le, List, [], ◌∷◌, map, length, refl, sym, ap₂, ◌∙◌, subst, arith}
 use Rattle.std.specs.List.{list_any, AllByRecursion}
-use Rattle.std.proofs.lemmas.Bool.{cond-false, eq-eqb, eqb-true}
+use Rattle.std.proofs.lemmas.Bool.{cond-false, eq-eqb, and_parts, and_from, le-leb, leb-true}
 use Rattle.macho_image.specs.Records.{SectionLoad, SegmentLoad}
 use Rattle.macho_image.specs.Rules.{section_stands, sections_stand, is_in_file_bytes, is_zero_fill, is_linkedit, is_well_shaped}
 use Rattle.macho_edit.specs.declared.segment.SegmentPlace.{SegmentPlace}
 use Rattle.macho_edit.specs.Segments.{section_address, section_offset}
 use Rattle.macho_edit.specs.Placed.{IsSeated}
-use Rattle.macho_edit.proofs.BoolLaws.{and_parts, and_true, le_true, true_le}
 use Rattle.macho_edit.proofs.MovedSections.{placed_section}
 use Rattle.macho_edit.proofs.MovedSegments.{placed_load}
+use Rattle.macho_image.proofs.HeaderRules.{IsShaped}
 
--- what the shape of a segment says
-pub record IsShaped (s : SegmentLoad) : Type 0 where
-  pub size : s.size ≡ 72 + 80 * s.nsects
-  pub aligned : s.vmaddr % 4096 ≡ 0
-  pub filled : s.filesize ≤ s.vmsize
-  pub low : s.vmaddr + s.vmsize ≤ 0x8000_0000_0000
-
-pub shaped_from : (s : SegmentLoad) → is_well_shaped s ≡ true → IsShaped s
-shaped_from s is =
-    let one = and_parts (nat_eq s.size (72 + 80 * s.nsects)) _ is in
-    let two = and_parts (nat_eq (s.vmaddr % 4096) 0) _ one.1 in
-    let three = and_parts (nat_le s.filesize s.vmsize) _ two.1 in
-    record {
-      size = eqb-true s.size (72 + 80 * s.nsects) one.0;
-      aligned = eqb-true (s.vmaddr % 4096) 0 two.0;
-      filled = true_le s.filesize s.vmsize three.0;
-      low = true_le (s.vmaddr + s.vmsize) 0x8000_0000_0000 three.1;
-    }
-
+-- a segment of good shape, the other way round
 pub shaped_true : (s : SegmentLoad) → IsShaped s → is_well_shaped s ≡ true
 shaped_true s is =
-    and_true (nat_eq s.size (72 + 80 * s.nsects)) _ (eq-eqb s.size (72 + 80 * s.nsects) is.size)
-    (and_true (nat_eq (s.vmaddr % 4096) 0) _ (eq-eqb (s.vmaddr % 4096) 0 is.aligned)
-    (and_true (nat_le s.filesize s.vmsize) _ (le_true s.filesize s.vmsize is.filled) (le_true (s.vmaddr + s.vmsize) 0x8000_0000_0000 is.low)))
+    and_from (nat_eq s.size (72 + 80 * s.nsects)) _ (eq-eqb s.size (72 + 80 * s.nsects) is.size)
+    (and_from (nat_eq (s.vmaddr % 4096) 0) _ (eq-eqb (s.vmaddr % 4096) 0 is.aligned)
+    (and_from (nat_le s.filesize s.vmsize) _ (le-leb s.filesize s.vmsize is.filled) (le-leb (s.vmaddr + s.vmsize) 0x8000_0000_0000 is.low)))
 
 -- a segment other than `__LINKEDIT` keeps its size in memory, which is its size in the file, below 2 ^ 32
 pub record IsWholeMove (p : SegmentPlace) (s : SegmentLoad) : Type 0 where
@@ -70,17 +52,17 @@ stands_from s start floor x is =
     let two = and_parts (nat_le floor x.addr) _ one.1 in
     let three = and_parts (nat_le (x.addr + x.size) (s.vmaddr + s.vmsize)) _ two.1 in
     record {
-      above = true_le start x.addr one.0;
-      behind = true_le floor x.addr two.0;
-      inside = true_le (x.addr + x.size) (s.vmaddr + s.vmsize) three.0;
+      above = leb-true start x.addr one.0;
+      behind = leb-true floor x.addr two.0;
+      inside = leb-true (x.addr + x.size) (s.vmaddr + s.vmsize) three.0;
       bytes = three.1;
     }
 
 stands_true : (s : SegmentLoad) (start floor : ℕ) (x : SectionLoad) → Stands s start floor x → section_stands s start floor x ≡ true
 stands_true s start floor x is =
-    and_true (nat_le start x.addr) _ (le_true start x.addr is.above)
-    (and_true (nat_le floor x.addr) _ (le_true floor x.addr is.behind)
-    (and_true (nat_le (x.addr + x.size) (s.vmaddr + s.vmsize)) _ (le_true (x.addr + x.size) (s.vmaddr + s.vmsize) is.inside) is.bytes))
+    and_from (nat_le start x.addr) _ (le-leb start x.addr is.above)
+    (and_from (nat_le floor x.addr) _ (le-leb floor x.addr is.behind)
+    (and_from (nat_le (x.addr + x.size) (s.vmaddr + s.vmsize)) _ (le-leb (x.addr + x.size) (s.vmaddr + s.vmsize) is.inside) is.bytes))
 
 moved_bytes : (n : ℕ) (p : SegmentPlace) (at : ℕ) (s : SegmentLoad) (x : SectionLoad) → IsSeated n p → IsWholeMove p s → s.vmaddr ≤ x.addr → x.addr + x.size ≤ s.vmaddr + s.vmsize
     → (nat_eq x.size 0 || (is_zero_fill x.flags || is_in_file_bytes s x)) ≡ true
@@ -96,8 +78,8 @@ moved_bytes n p at s x seated whole above inside is =
                 let offset : section_offset p x.flags (x.addr - s.vmaddr) ≡ (p.file + (x.addr - s.vmaddr)) % 2 ^ 32 = cond-false (is_zero_fill x.flags) 0 ((p.file + (x.addr - s.vmaddr)) % 2 ^ 32) kept in
                 let room : p.file + s.vmsize < 2 ^ 32 = whole.room in
                 let filled : p.filesize ≡ s.vmsize = whole.filled in
-                and_true (nat_le (section_address p (x.addr - s.vmaddr) - p.address + x.size) p.filesize) _
-                (le_true _ _ (omega arith))
+                and_from (nat_le (section_address p (x.addr - s.vmaddr) - p.address + x.size) p.filesize) _
+                (le-leb _ _ (omega arith))
                 (eq-eqb _ _ (offset ∙ omega arith))
           ] refl rest
     ] is
@@ -120,7 +102,7 @@ sections_stand-moved n p at s start start' floor floor' (x ∷ xs) seated whole 
       inside = omega arith;
       bytes = moved_bytes n p at s x seated whole above inside stands.bytes;
     } in
-    and_true (section_stands (placed_load p at s) start' floor' (placed_section p s.vmaddr x)) _ (stands_true (placed_load p at s) start' floor' (placed_section p s.vmaddr x) here)
+    and_from (section_stands (placed_load p at s) start' floor' (placed_section p s.vmaddr x)) _ (stands_true (placed_load p at s) start' floor' (placed_section p s.vmaddr x) here)
     (sections_stand-moved n p at s start start' (x.addr + x.size) (section_address p (x.addr - s.vmaddr) + x.size) xs seated whole low begins
     (λ y high behind. omega arith) parts.1)
 

@@ -3,20 +3,21 @@ use Rattle.std.proofs.Common.{◌≡◌, ◌≤◌, inl, inr, ℕ, suc, ◌+◌,
 use Rattle.std.specs.Prelude.{find, codes}
 use Rattle.std.specs.List.{list_any, AllByRecursion}
 use Rattle.std.specs.Option.{option_map}
-use Rattle.std.proofs.lemmas.Bool.{cond-true, cond-false, eqb-true, eq-eqb}
+use Rattle.std.proofs.lemmas.Bool.{cond-true, cond-false, eqb-true, eq-eqb, and_parts, and_from, le-leb, leb-true, not-false, le-ltb}
 use Rattle.std.proofs.lemmas.List.{length-map, nil_from_length}
 use Rattle.std.specs.Cmp.Lexicographic.{same_text}
 use Rattle.macho_image.specs.Records.{Load, SectionLoad, SegmentLoad}
 use Rattle.macho_image.specs.Rules.{first_segment, is_well_shaped, first_crossing, shares_address, misplaced, misplaced_behind, is_good_text, is_good_linkedit, has_reserved_name, is_text, is_linkedit, is_linkedit_name, same_bytes, first_load, names_outside, outside_of, breaks_segment_shape, breaks_segment_place, starts_elsewhere, breaks_segment_prot, breaks_section_shape, first_crowded, sections_stand, sections_start, breaks_interposing, section_type}
 use Rattle.dsc_base.specs.Refusals.{least}
-use Rattle.macho_image.proofs.Unbroken.{least_none_both}
+use Rattle.macho_image.proofs.Unbroken.{least_none_both, when_false, when_true, find_none}
 use Rattle.macho_edit.specs.declared.segment.SegmentPlace.{SegmentPlace}
 use Rattle.macho_edit.specs.Placed.{AreApart}
-use Rattle.macho_edit.proofs.BoolLaws.{bool_cases, and_parts, and_true, le_true, true_le, not_false, not_lower, when_false}
+use Rattle.macho_edit.proofs.BoolLaws.{bool_cases}
 use Rattle.macho_edit.proofs.MovedSections.{placed_section}
 use Rattle.macho_edit.proofs.MovedSegments.{placed_load}
 use Rattle.macho_edit.proofs.MovedCommands.{Follow}
 use Rattle.macho_edit.proofs.KeptSections.{shaped_true, IsWholeMove, IsSeatedLoad, sections_stand-moved, any-placed}
+use Rattle.macho_image.proofs.SectionLaws.{start_above}
 
 abbrev text_name : List ℕ
 text_name = codes "__TEXT" ++ (0 ∷ 0 ∷ 0 ∷ 0 ∷ 0 ∷ 0 ∷ 0 ∷ 0 ∷ 0 ∷ 0 ∷ [])
@@ -30,13 +31,6 @@ AreSeated n (p ∷ ps) (s ∷ ss) = IsSeatedLoad n p s × AreSeated n ps ss
 none_cons : (q : SegmentLoad → Bool) (t : SegmentLoad) (ts : List SegmentLoad) → q t ≡ false → first_segment q ts ≡ None → first_segment q (t ∷ ts) ≡ None
 none_cons q t ts here later = ap (λ (o : Option SegmentLoad). option_map {T = SegmentLoad} {U = ℕ} (λ x. x.at) o) (cond-false (q t) (Some t) (find q ts) here) ∙ later
 
-pub none_parts : (q : SegmentLoad → Bool) (t : SegmentLoad) (ts : List SegmentLoad) → first_segment q (t ∷ ts) ≡ None → (q t ≡ false) × (first_segment q ts ≡ None)
-none_parts q t ts none = parts (q t) t (find q ts) none
-  where
-    parts : (b : Bool) (t : SegmentLoad) (o : Option SegmentLoad) → option_map {T = SegmentLoad} {U = ℕ} (λ x. x.at) (if b then Some t else o) ≡ None → (b ≡ false) × (option_map {T = SegmentLoad} {U = ℕ} (λ x. x.at) o ≡ None)
-    parts true t o none = absurd (cc)
-    parts false t o none = (refl, none)
-
 -- a test that no segment passes, and none at its place
 pub first_followed : (n : ℕ) (q q' : SegmentLoad → Bool) → ((p : SegmentPlace) (at : ℕ) (s : SegmentLoad) → IsSeatedLoad n p s → q s ≡ false → q' (placed_load p at s) ≡ false)
     → (ps : List SegmentPlace) (ss ts : List SegmentLoad) → Follow ps ss ts → AreSeated n ps ss → first_segment q ss ≡ None → first_segment q' ts ≡ None
@@ -46,7 +40,7 @@ first_followed n q q' keeps [] (s ∷ ss) ts follow seated none = absurd follow
 first_followed n q q' keeps (p ∷ ps) [] ts follow seated none = absurd follow
 first_followed n q q' keeps (p ∷ ps) (s ∷ ss) [] follow seated none = absurd follow
 first_followed n q q' keeps (p ∷ ps) (s ∷ ss) (t ∷ ts) follow seated none =
-    let parts = none_parts q s ss none in
+    let parts = find_none (q s) s (find q ss) none in
     none_cons q' t ts (ap q' follow.0 ∙ keeps p t.at s seated.0 parts.0) (first_followed n q q' keeps ps ss ts follow.1 seated.1 parts.1)
 
 -- rule 10: the shape of each
@@ -88,7 +82,7 @@ row_apart p s t [] (u ∷ ss) ts is follow apart = absurd follow
 row_apart p s t (q ∷ ps) [] ts is follow apart = absurd follow
 row_apart p s t (q ∷ ps) (u ∷ ss) [] is follow apart = absurd follow
 row_apart p s t (q ∷ ps) (u ∷ ss) (v ∷ ts) is follow apart = (
-  ap₂ shares_address is follow.0 ∙ not_lower (max p.address q.address) (min (p.address + p.vmsize) (q.address + q.vmsize)) apart.0,
+  ap₂ shares_address is follow.0 ∙ le-ltb (max p.address q.address) (min (p.address + p.vmsize) (q.address + q.vmsize)) apart.0,
   row_apart p s t ps ss ts is follow.1 apart.1,
 )
 
@@ -125,10 +119,6 @@ behind_kept (p ∷ q ∷ ps) (s ∷ u ∷ ss) (t ∷ v ∷ ts) follow none =
 pub text_other : (name : List ℕ) → same_bytes name text_name ≡ true → is_linkedit_name name ≡ false
 text_other name is = ap is_linkedit_name (same_text name text_name (sym is))
 
-pub good_or : (b : Bool) (n : ℕ) (o : Option ℕ) → if◌then◌else◌ {A = Option ℕ} b o (Some n) ≡ None → (b ≡ true) × (o ≡ None)
-good_or true n o none = (refl, none)
-good_or false n o none = absurd (cc)
-
 -- a good text segment
 pub record IsGoodText (size : ℕ) (s : SegmentLoad) : Type 0 where
   pub named : is_text s ≡ true
@@ -139,7 +129,7 @@ pub good_text : (size : ℕ) (s : SegmentLoad) → is_good_text size s ≡ true 
 good_text size s good =
     let named = and_parts (is_text s) (nat_eq s.initprot 5 && nat_le size s.filesize) good in
     let rest = and_parts (nat_eq s.initprot 5) (nat_le size s.filesize) named.1 in
-    record { named = named.0; executable = eqb-true s.initprot 5 rest.0; holds = true_le size s.filesize rest.1 }
+    record { named = named.0; executable = eqb-true s.initprot 5 rest.0; holds = leb-true size s.filesize rest.1 }
 
 misplaced_kept : (n size size' : ℕ) (ps : List SegmentPlace) (ss ts : List SegmentLoad) → size' ≤ size → Follow ps ss ts → AreSeated n ps ss → misplaced size ss ≡ None → misplaced size' ts ≡ None
 misplaced_kept n size size' [] [] [] le follow seated none = refl
@@ -148,15 +138,15 @@ misplaced_kept n size size' [] (s ∷ ss) ts le follow seated none = absurd foll
 misplaced_kept n size size' (p ∷ ps) [] ts le follow seated none = absurd follow
 misplaced_kept n size size' (p ∷ ps) (s ∷ ss) [] le follow seated none = absurd follow
 misplaced_kept n size size' (p ∷ ps) (s ∷ ss) (t ∷ ts) le follow seated none =
-    let parts = good_or (is_good_text size s) s.at (misplaced_behind ss) none in
+    let parts = when_true (is_good_text size s) s.at (misplaced_behind ss) none in
     let good : IsGoodText size s = good_text size s parts.0 in
     let whole : IsWholeMove p s = seated.0.whole (text_other s.name good.named) in
     let filled : s.filesize ≤ s.vmsize = seated.0.shaped.filled in
     let holds : size ≤ s.filesize = good.holds in
     let file : p.filesize ≡ s.vmsize = whole.filled in
     let here : is_good_text size' (placed_load p t.at s) ≡ true =
-    and_true (is_text s) (nat_eq s.initprot 5 && nat_le size' p.filesize) good.named
-    (and_true (nat_eq s.initprot 5) (nat_le size' p.filesize) (eq-eqb s.initprot 5 good.executable) (le_true size' p.filesize (omega arith))) in
+    and_from (is_text s) (nat_eq s.initprot 5 && nat_le size' p.filesize) good.named
+    (and_from (nat_eq s.initprot 5) (nat_le size' p.filesize) (eq-eqb s.initprot 5 good.executable) (le-leb size' p.filesize (omega arith))) in
     cond-true (is_good_text size' t) (misplaced_behind ts) (Some t.at) (ap (is_good_text size') follow.0 ∙ here) ∙ behind_kept ps ss ts follow.1 parts.1
 
 follow_length : (ps : List SegmentPlace) (ss ts : List SegmentLoad) → Follow ps ss ts → length ts ≡ length ss
@@ -201,7 +191,7 @@ starts_kept h (p ∷ ps) (s ∷ ss) (t ∷ ts) follow starts =
 pub places_kept : (n h : ℕ) (ps : List SegmentPlace) (ss ts : List SegmentLoad) → Follow ps ss ts → AreSeated n ps ss → StartsAt h ps → breaks_segment_place n h ts ≡ None
 places_kept n h ps ss ts follow seated starts =
     least-none (first_segment (λ s. nat_lt n (s.fileoff + s.filesize)) ts) (starts_elsewhere h ts)
-    (first_followed n (λ s. false) (λ s. nat_lt n (s.fileoff + s.filesize)) (λ p at s is old. not_lower n (p.file + p.filesize) is.seated.inside) ps ss ts follow seated (never ss))
+    (first_followed n (λ s. false) (λ s. nat_lt n (s.fileoff + s.filesize)) (λ p at s is old. le-ltb n (p.file + p.filesize) is.seated.inside) ps ss ts follow seated (never ss))
     (starts_kept h ps ss ts follow starts)
 
 -- rule 11
@@ -211,9 +201,6 @@ prot_kept n ps ss ts follow seated none =
     (λ s. not (nat_eq s.initprot 5 || (nat_eq s.initprot 3 || nat_eq s.initprot 1)) || nat_eq (s.flags / 8 % 2) 1) (λ p at s is old. old) ps ss ts follow seated none
 
 -- rule 12
-start_bounds : (size : ℕ) (s : SegmentLoad) → s.vmaddr ≤ sections_start size s
-start_bounds size s = elim (is_text s) as (λ b. s.vmaddr ≤ (if b then s.vmaddr + size else s.vmaddr)) [ true ↦ omega arith | false ↦ omega arith ]
-
 start_moved : (size size' : ℕ) (p : SegmentPlace) (at : ℕ) (s : SegmentLoad) → size' ≤ size → sections_start size' (placed_load p at s) ≤ p.address + (sections_start size s - s.vmaddr)
 start_moved size size' p at s le =
     elim (is_text s) as (λ b. (if b then p.address + size' else p.address) ≤ p.address + ((if b then s.vmaddr + size else s.vmaddr) - s.vmaddr)) [ true ↦ omega arith | false ↦ omega arith ]
@@ -230,7 +217,7 @@ sections_kept : (n size size' : ℕ) → size' ≤ size → (p : SegmentPlace) (
 sections_kept n size size' le p at s is old = elim (bool_cases (is_linkedit s)) [
   | inl other ↦
       ap not (sections_stand-moved n p at s (sections_start size s) (sections_start size' (placed_load p at s)) 0 0 s.sections is.seated (is.whole other)
-      (start_bounds size s) (start_moved size size' p at s le) (λ y low floor. omega arith) (not_false (sections_stand s (sections_start size s) 0 s.sections) old))
+      (start_above size s) (start_moved size size' p at s le) (λ y low floor. omega arith) (not-false (sections_stand s (sections_start size s) 0 s.sections) old))
   | inr linkedit ↦
       ap (λ (xs : List SectionLoad). not (sections_stand (placed_load p at s) (sections_start size' (placed_load p at s)) 0 xs)) (ap (map (placed_section p s.vmaddr)) (no_sections n p s is linkedit))
 ]

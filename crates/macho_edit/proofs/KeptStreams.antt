@@ -3,7 +3,7 @@ use Rattle.std.proofs.Common.{◌≡◌, inl, inr, ℕ, ◌*◌, ◌/◌, Bool, 
 use Rattle.std.specs.Prelude.{filter, is_some}
 use Rattle.std.specs.List.{filter_map, cons_option}
 use Rattle.std.specs.Option.{option_map}
-use Rattle.std.proofs.lemmas.Bool.{cond-true, cond-false, eqb-true}
+use Rattle.std.proofs.lemmas.Bool.{cond-true, cond-false, eqb-true, or_cases, not-false}
 use Rattle.dsc_base.specs.Numbers.{number_at}
 use Rattle.dsc_base.specs.declared.fault.Span.{Span}
 use Rattle.macho_image.specs.Records.{Dep}
@@ -13,7 +13,7 @@ use Rattle.macho_edit.specs.declared.spots.LinkSpots.{LinkSpots}
 use Rattle.macho_edit.specs.Tables.{words_for, start_of}
 use Rattle.macho_edit.specs.Cached.{is_dropped, is_kept}
 use Rattle.macho_edit.specs.MovedImage.{named_by, spotted_streams, spotted_groups}
-use Rattle.macho_edit.proofs.BoolLaws.{bool_cases, or_cases, not_false}
+use Rattle.macho_edit.proofs.BoolLaws.{bool_cases}
 use Rattle.macho_edit.proofs.LengthLaws.{info_number}
 use Rattle.macho_edit.proofs.MovedCommands.{IsMoved, AreMoved}
 use Rattle.macho_edit.proofs.KeptRules.{IsForOthers, unchanged, keeps_number, name_others}
@@ -112,7 +112,7 @@ found_as (Some c) (Some d) how found = how c d found
 -- the commands of the tables are none that are left out
 dropped_other : (q : ℕ → Bool) → q 0x1E ≡ false → q 0x1D ≡ false → q 0x2B ≡ false → (c : List ℕ) → is_kept c ≡ false → q (number_of c) ≡ false
 dropped_other q split signature requirements c dropped =
-    elim (or_cases (is_split_info (number_of c)) (nat_eq (number_of c) 0x1D || nat_eq (number_of c) 0x2B) (not_false (is_dropped (number_of c)) dropped)) [
+    elim (or_cases (is_split_info (number_of c)) (nat_eq (number_of c) 0x1D || nat_eq (number_of c) 0x2B) (not-false (is_dropped (number_of c)) dropped)) [
       | inl is ↦ ap q (eqb-true (number_of c) 0x1E is) ∙ split
       | inr rest ↦ elim (or_cases (nat_eq (number_of c) 0x1D) (nat_eq (number_of c) 0x2B) rest) [
         | inl is ↦ ap q (eqb-true (number_of c) 0x1D is) ∙ signature

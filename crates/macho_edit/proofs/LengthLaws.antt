@@ -2,7 +2,7 @@
 use Rattle.std.proofs.Common.{◌≡◌, ◌≤◌, ◌⊎◌, inl, inr, ℕ, zero, suc, ◌+◌, ◌-◌, ◌*◌, ◌/◌, true, false, nat_eq, if◌then◌else◌, List, [], ◌∷◌, ◌++◌, take, drop, length, refl, ap, ◌∙◌, subst, arith, length-append, length-drop}
 use Rattle.std.specs.Prelude.{filter}
 use Rattle.std.specs.List.{concat, AllByRecursion}
-use Rattle.std.proofs.lemmas.Bool.{cond-true, cond-false, eqb-true}
+use Rattle.std.proofs.lemmas.Bool.{cond-true, cond-false, eqb-true, or_cases}
 use Rattle.std.proofs.lemmas.List.{length-take-le}
 use Rattle.dsc_base.specs.Numbers.{number_at, put_number}
 use Rattle.dsc_base.proofs.NumberLaws.{length-put_number}
@@ -15,7 +15,7 @@ use Rattle.macho_edit.specs.declared.spots.LinkSpots.{LinkSpots}
 use Rattle.macho_edit.specs.Segments.{place_for, section_address, section_offset, moved_section, moved_sections, moved_fields, placed_segment}
 use Rattle.macho_edit.specs.Tables.{words, with_words, words_for, spotted}
 use Rattle.macho_edit.specs.Cached.{is_kept, moved_command, moves_behind, moved_commands}
-use Rattle.macho_edit.proofs.BoolLaws.{bool_cases, or_cases}
+use Rattle.macho_edit.proofs.BoolLaws.{bool_cases}
 use Rattle.macho_edit.proofs.AppendLaws.{length-words}
 
 -- the commands that name streams and tables, and the others

@@ -2,7 +2,6 @@ pub mod AppendLaws
 pub mod CopyLaws
 pub mod LengthLaws
 pub mod FrontLaws
-pub mod SoundLaws
 pub mod Spelt
 pub mod TableLaws
 pub mod MovedSections

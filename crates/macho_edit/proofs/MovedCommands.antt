@@ -2,7 +2,7 @@
 use Rattle.std.proofs.Common.{◌≡◌, ◌⊎◌, inl, inr, ℕ, ◌+◌, true, false, List, [], ◌∷◌, map, take, drop, length, refl, sym, ap, ap₂, ◌∙◌, subst, arith}
 use Rattle.std.specs.Prelude.{filter}
 use Rattle.std.specs.List.{AllByRecursion}
-use Rattle.std.proofs.lemmas.Bool.{cond-true, cond-false}
+use Rattle.std.proofs.lemmas.Bool.{cond-true, cond-false, not-false}
 use Rattle.std.proofs.lemmas.Bool.Decides.{nat_tests}
 use Rattle.dsc_base.specs.Numbers.{number_at}
 use Rattle.macho_image.specs.declared.place.Moved.{Moved}
@@ -14,7 +14,7 @@ use Rattle.macho_edit.specs.declared.spots.LinkSpots.{LinkSpots}
 use Rattle.macho_edit.specs.Segments.{place_for, placed_segment, moved_segment}
 use Rattle.macho_edit.specs.Tables.{spotted}
 use Rattle.macho_edit.specs.Cached.{is_dropped, is_kept, moved_command, moves_behind, moved_commands}
-use Rattle.macho_edit.proofs.BoolLaws.{bool_cases, clash, not_false}
+use Rattle.macho_edit.proofs.BoolLaws.{bool_cases, clash}
 use Rattle.macho_edit.proofs.TableLaws.{spotted_front}
 use Rattle.macho_edit.proofs.MovedSegments.{FitsPlace, IsSegmentBytes, SameCommand, segment_same, placed_load, segment_load-placed}
 
@@ -156,7 +156,7 @@ take_segment : (spots : LinkSpots) (m : Moved) (ms : List Moved) (at at' : ℕ) 
 take_segment spots m ms at at' c cs good is fits later =
     let ss : List SegmentLoad = segment_loads (loads_from (at + length c) cs) in
     let kept : is_kept c ≡ true = elim (bool_cases (is_kept c)) [
-      | inl dropped ↦ absurd (clash (is_segment (number_of c)) is (segment_kept (number_of c) (not_false (is_dropped (number_of c)) dropped)))
+      | inl dropped ↦ absurd (clash (is_segment (number_of c)) is (segment_kept (number_of c) (not-false (is_dropped (number_of c)) dropped)))
       | inr kept ↦ kept
     ] in
     subst (λ (ts : List SegmentLoad). AreFollowed spots (m ∷ ms) ts at' (filter is_kept (c ∷ cs))) (sym (one_more at c cs is))

@@ -12,7 +12,7 @@ use Rattle.macho_image.specs.Macho.{header_size, header_in, loads_of, segment_lo
 use Rattle.macho_image.specs.Rules.{first_segment, first_crossing, misplaced, is_well_shaped, is_linkedit, breaks_segment_shape}
 use Rattle.dsc_base.specs.Refusals.{least}
 use Rattle.macho_image.specs.Breaks.{image_break, image_unless, image_at, IsSound}
-use Rattle.macho_image.proofs.Unbroken.{least_none_both, image_sound}
+use Rattle.macho_image.proofs.Unbroken.{least_none_both, image_sound, when_false}
 use Rattle.macho_edit.specs.declared.segment.SegmentPlace.{SegmentPlace}
 use Rattle.macho_edit.specs.declared.spots.LinkSpots.{LinkSpots}
 use Rattle.macho_edit.specs.Segments.{place_for}
@@ -20,16 +20,15 @@ use Rattle.macho_edit.specs.Conditions.{CanMove, FitFields, FitPlaces}
 use Rattle.macho_edit.specs.Cached.{kept_commands, formed_header, formed_bytes, unrebased, cached_bytes}
 use Rattle.macho_edit.specs.Placed.{IsSeated}
 use Rattle.macho_edit.specs.MovedImage.{SpellsMoved, SpellsAlone}
-use Rattle.macho_edit.proofs.BoolLaws.{bool_cases, when_false}
+use Rattle.macho_edit.proofs.BoolLaws.{bool_cases}
 use Rattle.macho_edit.proofs.FrontLaws.{cached_is}
 use Rattle.macho_edit.proofs.PlaceLaws.{place_other, place_linkedit}
-use Rattle.macho_edit.proofs.SoundLaws.{sound_rules}
 use Rattle.macho_edit.proofs.MovedSegments.{FitsPlace, placed_load}
 use Rattle.macho_edit.proofs.MovedCommands.{load_places, Follow}
-use Rattle.macho_edit.proofs.KeptSections.{IsShaped}
-use Rattle.macho_edit.proofs.Grounds.{LowLoads, all_fail, all_shaped, first_text}
+use Rattle.macho_edit.proofs.Grounds.{LowLoads, first_text}
 use Rattle.macho_edit.proofs.Spelt.{IsSpelt, AreSoundLoads, sound_loads, spelt, seats_are, header_here, image_there, spelled_image}
 use Rattle.macho_edit.proofs.Reread.{unrebased_can, cached_there, standalone_there}
+use Rattle.macho_image.proofs.HeaderRules.{all_fail, sound_rules, IsShaped, all_shaped}
 
 -- the numbers of each place fit 64 bits, by the types of moves and spots
 fit_place : (spots : LinkSpots) (m : Moved) (s : SegmentLoad) → spots.linkedit.file < 2 ^ 64 → spots.linkedit.address < 2 ^ 64 → spots.vmsize < 2 ^ 64 → spots.filesize < 2 ^ 64 → m.address < 2 ^ 64

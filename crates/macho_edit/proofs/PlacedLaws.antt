@@ -10,9 +10,10 @@ use Rattle.macho_edit.specs.declared.segment.SegmentPlace.{SegmentPlace}
 use Rattle.macho_edit.specs.declared.spots.LinkSpots.{LinkSpots}
 use Rattle.macho_edit.specs.Segments.{linkedit_place, own_place}
 use Rattle.macho_edit.specs.Placed.{places_of, IsSeated, AreApart}
-use Rattle.macho_edit.proofs.BoolLaws.{bool_cases, clash, lower_not}
+use Rattle.macho_edit.proofs.BoolLaws.{bool_cases, clash}
 use Rattle.macho_edit.proofs.PlaceLaws.{place_other, place_linkedit, length-places_of, places_of-at}
 use Rattle.macho_edit.proofs.Grounds.{linkedit_last}
+use Rattle.std.proofs.lemmas.Bool.{ltb-false}
 
 -- values for places past the end
 abbrev no_move : Moved
@@ -66,7 +67,7 @@ apart_from image moves spots sound same own linkedit i j p lt behind =
     ])
   where
     one_or_more : (a b : ℕ) → a ≤ b → (a < b) ⊎ (a ≡ b)
-    one_or_more a b le = elim (bool_cases (nat_lt a b)) [ inl not_less ↦ inr (omega (arith, lower_not a b not_less)) | inr less ↦ inl (grind (arith, nat_tests)) ]
+    one_or_more a b le = elim (bool_cases (nat_lt a b)) [ inl not_less ↦ inr (omega (arith, ltb-false a b not_less)) | inr less ↦ inl (grind (arith, nat_tests)) ]
 
     not_last : (image : Img) → IsSound image → (j : ℕ) → j < length image.segments → is_linkedit_segment (get_or image.segments j no_segment) ≡ false → j + 1 < length image.segments
     not_last image sound j within other = elim (one_or_more (j + 1) (length image.segments) (omega arith)) [

@@ -2,7 +2,7 @@
 use Rattle.std.proofs.Common.{◌≡◌, ◌≤◌, ◌<◌, inl, inr, ℕ, ◌+◌, ◌-◌, ◌/◌, ◌%◌, ◌^◌, Bool, true, false, not, ◌||◌, nat_eq, nat_le, nat_lt, if◌then◌else◌, Option, Some, None, List, [], ◌∷◌, take, drop, length, get_or, refl, sym, ap, ap₂, ◌∙◌, subst, arith, All}
 use Rattle.std.specs.Prelude.{filter}
 use Rattle.std.specs.List.{AllByRecursion}
-use Rattle.std.proofs.lemmas.Bool.{cond-true, cond-false, eq-eqb, eqb-true}
+use Rattle.std.proofs.lemmas.Bool.{cond-true, cond-false, eq-eqb, eqb-true, not-false, or_parts, and_parts, and_from, le-leb, le-ltb, leb-true}
 use Rattle.std.proofs.lemmas.Bool.Decides.{nat_tests}
 use Rattle.std.proofs.lemmas.List.Elements.{recursion_from_All}
 use Rattle.dsc_base.specs.Numbers.{number_at}
@@ -16,7 +16,7 @@ use Rattle.macho_image.specs.Macho.{header_size, header_in, commands_of, loads_f
 use Rattle.macho_image.specs.Rules.{says_cached, flags_fit, breaks_not_mach_o, breaks_wrong_kind, breaks_segment_shape, breaks_segment_place, breaks_has_relocations, breaks_linkedit_range}
 use Rattle.dsc_base.specs.Refusals.{least, broken, first_break}
 use Rattle.macho_image.specs.Breaks.{kind_break, command_break, section_break, name_break, load_break, image_break, image_unless, image_at, form_of, IsSound}
-use Rattle.macho_image.proofs.Unbroken.{least_none_both, none_broken, image_sound}
+use Rattle.macho_image.proofs.Unbroken.{least_none_both, none_broken, image_sound, when_false}
 use Rattle.macho_edit.specs.declared.segment.SegmentPlace.{SegmentPlace}
 use Rattle.macho_edit.specs.declared.spots.LinkSpots.{LinkSpots}
 use Rattle.macho_edit.specs.Conditions.{CanMove, FitFields}
@@ -24,7 +24,7 @@ use Rattle.macho_edit.specs.Segments.{place_for}
 use Rattle.macho_edit.specs.Cached.{is_kept, in_cache, out_of_cache, flags_in, kept_commands, formed_header, formed_bytes, unrebased, cached_bytes}
 use Rattle.macho_edit.specs.Placed.{places_of, IsSeated, AreApart, IsLinked, IsPlaced}
 use Rattle.macho_edit.specs.MovedImage.{spotted_streams, spotted_groups, placed_image, moved_image, standalone_image, Rereads, RereadsAlone}
-use Rattle.macho_edit.proofs.BoolLaws.{bool_cases, when_false, not_false, or_neither, and_parts, and_true, le_true, not_lower, true_le}
+use Rattle.macho_edit.proofs.BoolLaws.{bool_cases}
 use Rattle.macho_edit.proofs.FrontLaws.{cached_is, kept_is}
 use Rattle.macho_edit.proofs.MovedCommands.{load_places}
 use Rattle.macho_edit.proofs.KeptRules.{KeepCommandRules, command_rules_kept}
@@ -63,9 +63,9 @@ magic_kept : (form : Form) (image : Img) (moves : List Moved) (spots : LinkSpots
 magic_kept form image moves spots is =
     let k : List ℕ = formed_header form spots moves image.header in
     let old = when_some (nat_lt (length image.header) 32 || not (nat_eq (number_at 4 image.header 0) 0xFEED_FACF)) is.rules.magic in
-    let both = or_neither (nat_lt (length image.header) 32) (not (nat_eq (number_at 4 image.header 0) 0xFEED_FACF)) old in
+    let both = or_parts (nat_lt (length image.header) 32) (not (nat_eq (number_at 4 image.header 0) 0xFEED_FACF)) old in
     cond-false (nat_lt (length k) 32 || not (nat_eq (number_at 4 k 0) 0xFEED_FACF)) (Some 0) None
-    (ap₂ (λ (a c : Bool). a || c) (not_lower (length k) 32 is.kept.long) (ap (λ (n : ℕ). not (nat_eq n 0xFEED_FACF)) (is.kept.low 4 0 (omega arith)) ∙ both.1))
+    (ap₂ (λ (a c : Bool). a || c) (le-ltb (length k) 32 is.kept.long) (ap (λ (n : ℕ). not (nat_eq n 0xFEED_FACF)) (is.kept.low 4 0 (omega arith)) ∙ both.1))
   where
     when_some : (c : Bool) → if◌then◌else◌ {A = Option ℕ} c (Some 0) None ≡ None → c ≡ false
     when_some true e = absurd (cc)
@@ -79,8 +79,8 @@ cached_flags flags fit = elim (bool_cases (says_cached flags)) [
       let bit : flags / 0x80 % 2 ≡ 1 = eqb-true (flags / 0x80 % 2) 1 parts.0 in
       let set = flags_set flags clear in
       ap (flags_fit Cached) set.0
-      ∙ and_true (nat_eq ((flags + 0x8000_0000) / 0x80 % 2) 1) (says_cached (flags + 0x8000_0000))
-      (eq-eqb ((flags + 0x8000_0000) / 0x80 % 2) 1 (omega arith)) (le_true 0x8000_0000 (flags + 0x8000_0000) (omega arith))
+      ∙ and_from (nat_eq ((flags + 0x8000_0000) / 0x80 % 2) 1) (says_cached (flags + 0x8000_0000))
+      (eq-eqb ((flags + 0x8000_0000) / 0x80 % 2) 1 (omega arith)) (le-leb 0x8000_0000 (flags + 0x8000_0000) (omega arith))
   | inr set ↦
       ap (flags_fit Cached) (cond-true (says_cached flags) flags (flags + 0x8000_0000) set)
       ∙ subst (λ (f : Form). flags_fit f flags ≡ true) (cond-true (says_cached flags) Cached Standalone set) fit
@@ -95,10 +95,10 @@ own_flags flags narrow fit = elim (bool_cases (says_cached flags)) [
       let own : flags_fit Cached flags ≡ true = subst (λ (f : Form). flags_fit f flags ≡ true) (cond-true (says_cached flags) Cached Standalone set) fit in
       let parts = and_parts (nat_eq (flags / 0x80 % 2) 1) (says_cached flags) own in
       let bit : flags / 0x80 % 2 ≡ 1 = eqb-true (flags / 0x80 % 2) 1 parts.0 in
-      let up : 0x8000_0000 ≤ flags = true_le 0x8000_0000 flags set in
+      let up : 0x8000_0000 ≤ flags = leb-true 0x8000_0000 flags set in
       let down : nat_le 0x8000_0000 (flags - 0x8000_0000) ≡ false = grind (arith, nat_tests) in
       ap (flags_fit Standalone) (cond-true (says_cached flags) (flags - 0x8000_0000) flags set)
-      ∙ and_true (nat_eq ((flags - 0x8000_0000) / 0x80 % 2) 1) (not (says_cached (flags - 0x8000_0000)))
+      ∙ and_from (nat_eq ((flags - 0x8000_0000) / 0x80 % 2) 1) (not (says_cached (flags - 0x8000_0000)))
       (eq-eqb ((flags - 0x8000_0000) / 0x80 % 2) 1 (omega arith)) (ap not down)
 ]
 
@@ -112,7 +112,7 @@ kind_parts form cpu kind flags none =
     let one = when_false (not (nat_eq cpu 0x0100_0007)) 4 (if not (nat_eq kind 6) then Some 12 else (if not (flags_fit form flags) then Some 24 else None)) none in
     let two = when_false (not (nat_eq kind 6)) 12 (if not (flags_fit form flags) then Some 24 else None) one.1 in
     let three = when_false (not (flags_fit form flags)) 24 None two.1 in
-    (one.0, two.0, not_false (flags_fit form flags) three.0)
+    (one.0, two.0, not-false (flags_fit form flags) three.0)
 
 kind_none : (form : Form) (cpu kind flags : ℕ) → not (nat_eq cpu 0x0100_0007) ≡ false → not (nat_eq kind 6) ≡ false → flags_fit form flags ≡ true
     → if◌then◌else◌ {A = Option ℕ} (not (nat_eq cpu 0x0100_0007)) (Some 4) (if not (nat_eq kind 6) then Some 12 else (if not (flags_fit form flags) then Some 24 else None)) ≡ None

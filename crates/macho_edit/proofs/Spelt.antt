@@ -13,25 +13,26 @@ use Rattle.macho_image.specs.Rules.{first_segment, first_crowded, first_crossing
 use Rattle.dsc_base.specs.Refusals.{least}
 use Rattle.macho_image.specs.Breaks.{form_of, IsSound}
 use Rattle.macho_image.proofs.CommandLaws.{shape_joins}
-use Rattle.macho_image.proofs.Unbroken.{least_none_both}
+use Rattle.macho_image.proofs.Unbroken.{least_none_both, when_false}
 use Rattle.macho_edit.specs.declared.segment.SegmentPlace.{SegmentPlace}
 use Rattle.macho_edit.specs.declared.spots.LinkSpots.{LinkSpots}
 use Rattle.macho_edit.specs.Conditions.{CanMove, FitFields}
 use Rattle.macho_edit.specs.Cached.{is_kept, flags_in, kept_commands, formed_header, formed_bytes}
 use Rattle.macho_edit.specs.Placed.{places_of, IsSeated}
 use Rattle.macho_edit.specs.MovedImage.{seated_all, followed, spotted_streams, spotted_groups, placed_image}
-use Rattle.macho_edit.proofs.BoolLaws.{when_false, lower_not}
 use Rattle.macho_edit.proofs.CopyLaws.{command_shape}
-use Rattle.macho_edit.proofs.SoundLaws.{KeepsRules, sound_rules, header_front}
 use Rattle.macho_edit.proofs.MovedSegments.{FitsPlace}
 use Rattle.macho_edit.proofs.MovedCommands.{AreMoved, AreFollowed, all_followed, load_places, Follow}
 use Rattle.macho_edit.proofs.KeptHeader.{IsKeptHeader, kept_header_is, all_moved_whole}
 use Rattle.macho_edit.proofs.KeptTables.{AreSpots}
 use Rattle.macho_edit.proofs.KeptStreams.{streams_are, groups_are, has_info, dependencies_are, same_uuid, same_name}
-use Rattle.macho_edit.proofs.KeptSections.{IsShaped}
 use Rattle.macho_edit.proofs.KeptSegments.{AreSeated}
 use Rattle.macho_edit.proofs.KeptImage.{segments_seated, same_starts, sections_followed, addresses_of}
-use Rattle.macho_edit.proofs.Grounds.{LowLoads, places_from, loads_length, all_fail, all_shaped, commands_good, all_room, all_bare, low_loads, are_seated, form_flags_fit}
+use Rattle.macho_edit.proofs.Grounds.{LowLoads, places_from, commands_good, all_room, all_bare, low_loads, are_seated, form_flags_fit}
+use Rattle.std.proofs.lemmas.Bool.{ltb-false}
+use Rattle.macho_image.proofs.SoundSegments.{loads_length}
+use Rattle.macho_image.proofs.HeaderRules.{all_fail, KeepsRules, sound_rules, IsShaped, all_shaped}
+use Rattle.macho_image.proofs.WalkLaws.{sound_front}
 
 -- what is known of a header that was moved, wherever it stands
 pub record IsSpelt (form : Form) (image : Img) (moves : List Moved) (spots : LinkSpots) : Type 0 where
@@ -62,7 +63,7 @@ sound_loads image moves spots sound can =
     let rest = least_none_both (first_crossing [] ss) (misplaced (header_size header) ss) parts.1 in
     record {
       few = can.one_each ∙ loads_length image.segments ss sound.segments;
-      two = lower_not (length ss) 2 many.0;
+      two = ltb-false (length ss) 2 many.0;
       well_placed = rest.1;
       shaped = all_shaped ss (all_fail (λ s. not (is_well_shaped s)) ss parts.0);
       low = low_loads moves image.segments ss sound.segments can.low;
@@ -74,7 +75,7 @@ spelt form image moves spots sound can fields narrow loads short fit =
     let header : List ℕ = image.header in
     let ss : List SegmentLoad = segment_loads (loads_of header) in
     let rules = sound_rules image sound in
-    let front : 32 ≤ length header = header_front header rules.magic in
+    let front : 32 ≤ length header = sound_front image sound in
     let whole = shape_joins (number_at 4 header 16) 32 (drop 32 header) (command_shape header front rules.shape) in
     let followed : AreFollowed spots moves ss 32 (filter is_kept (commands_of header)) =
     all_followed spots moves 32 32 (commands_of header) loads.few (commands_good 32 (commands_of header) whole.whole loads.shaped) fit in

@@ -2,10 +2,8 @@
 use Rattle.std.proofs.Common.{◌≡◌, ◌≤◌, ◌<◌, ◌+◌, ◌-◌, ◌^◌, ℕ, arith}
 use Rattle.macho_image.specs.Places.{wrap, above}
 
--- the address so far above another one lies so far above it
-pub above_added : (a d : ℕ) → d < 2 ^ 64 → above (wrap a) (wrap (a + d)) ≡ d
-unfolding above
-above_added a d lt = omega (arith, lt)
+pub wrap_fits : (n : ℕ) → wrap n < 2 ^ 64
+wrap_fits n = omega arith
 
 -- and the other way round
 pub added_above : (a x : ℕ) → a ≤ 2 ^ 64 → x < 2 ^ 64 → wrap (a + above a x) ≡ x
@@ -20,8 +18,3 @@ above_small a x = omega arith
 pub above_plain : (a x : ℕ) → a ≤ x → x < 2 ^ 64 → above a x ≡ x - a
 unfolding above
 above_plain a x le lt = omega (arith, le, lt)
-
--- addresses that are slid alike keep how far one lies above the other
-pub above_slid : (a x slide : ℕ) → a < 2 ^ 64 → x < 2 ^ 64 → above (wrap (a + slide)) (wrap (x + slide)) ≡ above a x
-unfolding above
-above_slid a x slide low lt = omega (arith, low, lt)

@@ -1,14 +1,14 @@
 -- Splitting joined commands gives them back, and a header that isn't misshapen is its commands joined.
-use Rattle.std.proofs.Common.{◌≡◌, ◌≤◌, ◌+◌, ◌%◌, ℕ, zero, suc, Bool, true, false, List, [], ◌∷◌, ◌++◌, take, drop, length, map, refl, sym, ap, ap₂, ◌∙◌, arith, append_assoc, if◌then◌else◌, nat_eq, Option, Some, None}
+use Rattle.std.proofs.Common.{◌≡◌, ◌≤◌, ◌+◌, ◌%◌, ℕ, zero, suc, Bool, false, List, [], ◌∷◌, ◌++◌, take, drop, length, map, refl, sym, ap, ap₂, ◌∙◌, arith, append_assoc, if◌then◌else◌, nat_eq, Some, None}
 use Rattle.std.specs.List.{AllByRecursion, concat, flat_map}
 use Rattle.std.proofs.lemmas.List.{take-append-drop, length-take-le}
 use Rattle.std.proofs.Math.Seq.{take-append_seam, drop-append_seam}
 use Rattle.std.proofs.lemmas.Bool.Decides.{nat_tests}
 use Rattle.dsc_base.proofs.NumberLaws.{number_at-take, number_at-append_left}
-use Rattle.macho_image.specs.Records.{Load}
-use Rattle.macho_image.specs.Macho.{size_of, number_of, commands_in, loads_from}
+use Rattle.macho_image.specs.Macho.{size_of, number_of, commands_in}
 use Rattle.macho_image.specs.Rules.{begins_whole, misshapen, least_size}
 use Rattle.macho_image.proofs.Splitting.{begins_whole-front}
+use Rattle.macho_image.proofs.Unbroken.{when_true}
 
 -- a command that is as long as its cmdsize says
 pub record IsSized (c : List ℕ) : Type 0 where
@@ -39,20 +39,6 @@ length-mapped : (f : List ℕ → List ℕ) (cs : List (List ℕ)) → length (m
 length-mapped f [] = refl
 length-mapped f (c ∷ cs) = omega (arith, length-mapped f cs)
 
--- the same after each command was changed, where it still is as long as its cmdsize says
-pub commands_in-mapped : (f : List ℕ → List ℕ) (cs : List (List ℕ)) (rest : List ℕ) → AllByRecursion (λ c. IsSized (f c)) cs
-    → commands_in (length cs) (flat_map f cs ++ rest) ≡ map f cs
-commands_in-mapped f cs rest sized =
-    ap₂ (λ (n : ℕ) (l : List ℕ). commands_in n (l ++ rest)) (sym (length-mapped f cs)) (sym (concat-map f cs)) ∙ commands_in-joined (map f cs) rest (sized-map f cs sized)
-
--- a change that keeps each command's length keeps their offsets
-pub loads_from-mapped : (f : List ℕ → List ℕ) (at : ℕ) (cs : List (List ℕ)) → AllByRecursion (λ c. length (f c) ≡ length c) cs
-    → loads_from at (map f cs) ≡ map (λ (l : Load). record { at = l.at; bytes = f l.bytes }) (loads_from at cs)
-loads_from-mapped f at [] same = refl
-loads_from-mapped f at (c ∷ cs) same =
-    ap (λ (n : ℕ). record { at = at; bytes = f c } ∷ loads_from (at + n) (map f cs)) same.0
-    ∙ ap (λ (l : List Load). record { at = at; bytes = f c } ∷ l) (loads_from-mapped f (at + length c) cs same.1)
-
 -- a command with all of its structure
 pub record IsWholeCommand (c : List ℕ) : Type 0 where
   pub sized : IsSized c
@@ -73,14 +59,10 @@ empty (x ∷ bytes) k e =
     some-is-none : (k : ℕ) → Some k ≡ None → ⊥
     some-is-none k e = cc
 
-whole_or : (b : Bool) (o : Option ℕ) (k : ℕ) → (if b then o else Some k) ≡ None → (b ≡ true) × (o ≡ None)
-whole_or true o k e = (refl, e)
-whole_or false o k e = absurd (cc)
-
 pub shape_joins : (n at : ℕ) (bytes : List ℕ) → misshapen n at bytes ≡ None → AreCommands n bytes
 shape_joins zero at bytes none = record { joined = empty bytes 20 none; whole = tt }
 shape_joins (suc n) at bytes none =
-    let parts = whole_or (begins_whole bytes) (misshapen n (at + size_of bytes) (drop (size_of bytes) bytes)) at none in
+    let parts = when_true (begins_whole bytes) at (misshapen n (at + size_of bytes) (drop (size_of bytes) bytes)) none in
     let front = begins_whole-front bytes parts.0 in
     let some : 8 ≤ size_of bytes = front.some in
     let len : length (take (size_of bytes) bytes) ≡ size_of bytes = length-take-le (size_of bytes) bytes front.within in

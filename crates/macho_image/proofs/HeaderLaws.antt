@@ -1,8 +1,8 @@
 -- The header of an image: it stands at the start of the first segment, which is named `__TEXT`.
-use Rattle.std.proofs.Common.{◌≡◌, ℕ, Bool, true, false, not, ◌&&◌, List, [], ◌∷◌, map, refl, sym, ap, ◌∙◌, arith, nat_eq, nat_lt, if◌then◌else◌, inl, inr, length, Option, Some, None}
+use Rattle.std.proofs.Common.{◌≡◌, ℕ, Bool, true, false, not, List, [], ◌∷◌, map, refl, sym, ap, ◌∙◌, arith, nat_eq, nat_lt, if◌then◌else◌, length, Some, None}
 use Rattle.std.specs.Prelude.{find, slice_get}
 use Rattle.std.specs.List.{position}
-use Rattle.std.proofs.lemmas.Bool.{cases_Bool, cond-true, eqb-true}
+use Rattle.std.proofs.lemmas.Bool.{and_parts, cond-true, eqb-true}
 use Rattle.std.proofs.lemmas.Grind.{common_steps}
 use Rattle.macho_image.specs.Records.{Img, Seg, SegmentLoad}
 use Rattle.macho_image.specs.Macho.{header_size, loads_of, segment_loads, segment_with}
@@ -11,25 +11,16 @@ use Rattle.macho_image.specs.Segments.{is_text_segment, start_of, header_address
 use Rattle.macho_image.specs.Breaks.{form_of, unread, IsSound}
 use Rattle.macho_image.specs.declared.form.Form.TheVariants.{Standalone}
 use Rattle.dsc_base.specs.Refusals.{least}
-use Rattle.macho_image.proofs.Unbroken.{least_none_both}
+use Rattle.macho_image.proofs.Unbroken.{when_true}
+use Rattle.macho_image.proofs.HeaderRules.{shape_parts}
 use Rattle.macho_image.proofs.SoundSegments.{segment_shape}
-
-both_first : (a b : Bool) → (a && b) ≡ true → a ≡ true
-both_first true b is = refl
-both_first false b is = is
 
 -- the segment in front, with those behind it, where none is in a wrong place
 first_text : (size : ℕ) (s : Seg) (l : SegmentLoad) (ls : List SegmentLoad) → unread s ≡ segment_with [] l → misplaced size (l ∷ ls) ≡ None → is_text_segment s ≡ true
 unfolding is_text_segment
-first_text size s l ls here none = elim (cases_Bool (is_good_text size l)) [
-  | inl good ↦
-      let named : is_text l ≡ true = both_first _ _ good in
-      ap (λ (t : Seg). is_text_name t.name) here ∙ named
-  | inr bad ↦ absurd (some_none l.at (sym (ap (λ (b : Bool). if b then misplaced_behind ls else Some l.at) bad) ∙ none))
-]
-  where
-    some_none : (k : ℕ) → ◌≡◌ {A = Option ℕ} (Some k) None → ⊥
-    some_none k e = cc
+first_text size s l ls here none =
+    let good = when_true (is_good_text size l) l.at (misplaced_behind ls) none in
+    ap (λ (t : Seg). is_text_name t.name) here ∙ (and_parts (is_text l) _ good.0).0
 
 first_of_all : (size : ℕ) (ss : List Seg) (ls : List SegmentLoad) (s : Seg) → map unread ss ≡ map (segment_with []) ls → misplaced size ls ≡ None → slice_get ss 0 ≡ Some s → is_text_segment s ≡ true
 first_of_all size [] ls s same none there = absurd (cc)
@@ -45,11 +36,7 @@ first_is_text image sound s there =
     let ls = segment_loads (loads_of image.header) in
     let size = header_size image.header in
     first_of_all size image.segments ls s sound.segments
-    (placed (nat_lt (length ls) 2) 0 (first_segment (λ t. not (is_well_shaped t)) ls) (first_crossing [] ls) (misplaced size ls) (segment_shape image sound)) there
-  where
-    placed : (few : Bool) (k : ℕ) (a b c : Option ℕ) → (if few then Some k else least a (least b c)) ≡ None → c ≡ None
-    placed true k a b c none = absurd (cc)
-    placed false k a b c none = (least_none_both b c (least_none_both a (least b c) none).1).1
+    (shape_parts size ls (segment_shape image sound)).3 there
 
 -- there is a first one
 pub some_segment : (image : Img) → IsSound image → (s : Seg) × (slice_get image.segments 0 ≡ Some s)

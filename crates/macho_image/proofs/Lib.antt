@@ -2,7 +2,10 @@ pub mod AboveLaws
 pub mod ArchLaws
 pub mod CloseLaws
 pub mod CommandLaws
+pub mod FileLaws
+pub mod FileLists
 pub mod HeaderLaws
+pub mod HeaderRules
 pub mod Images
 pub mod IndexLaws
 pub mod NumberLaws
@@ -16,6 +19,7 @@ pub mod SectionLaws
 pub mod SegmentLaws
 pub mod Segments
 pub mod Sharing
+pub mod SliceLaws
 pub mod SoundSegments
 pub mod Splitting
 pub mod StreamLaws

@@ -24,10 +24,6 @@ pub up_lower : (a b : ℕ) (ls : List Location) → a ≤ b → UpFrom b ls → 
 up_lower a b [] le up = tt
 up_lower a b (l ∷ ls) le up = (omega (arith, up.0), up.1)
 
-pub spaced_lower : (a b : ℕ) (ls : List Location) → a ≤ b → SpacedFrom b ls → SpacedFrom a ls
-spaced_lower a b [] le spaced = tt
-spaced_lower a b (l ∷ ls) le spaced = (omega (arith, spaced.0), spaced.1)
-
 pub spaced_up : (floor : ℕ) (ls : List Location) → SpacedFrom floor ls → UpFrom floor ls
 spaced_up floor [] spaced = tt
 spaced_up floor (l ∷ ls) spaced = (spaced.0, up_lower l.address (l.address + 8) ls (omega arith) (spaced_up (l.address + 8) ls spaced.1))

@@ -1,5 +1,5 @@
 -- Looking for the second command of a kind, one command after another, and for the least of several places.
-use Rattle.std.proofs.Common.{◌≡◌, ◌<◌, ◌+◌, ℕ, Bool, true, false, List, drop, length, get_or, refl, sym, ap, ◌∙◌, arith, if◌then◌else◌, Option, Some, None, option_map, drop-cons, add-one}
+use Rattle.std.proofs.Common.{◌≡◌, ◌<◌, ◌+◌, ℕ, Bool, true, List, drop, length, get_or, refl, sym, ap, ◌∙◌, arith, if◌then◌else◌, Option, Some, None, option_map, drop-cons, add-one}
 use Rattle.std.specs.Prelude.{filter, slice_get}
 use Rattle.macho_image.specs.Records.{Load}
 use Rattle.macho_image.specs.Macho.{number_of}
@@ -9,17 +9,6 @@ use Rattle.dsc_base.specs.Refusals.{least}
 -- where the next command of the kind stands, or the one after it while none was seen
 abbrev pub second_from : (ℕ × ℕ) → Bool → List Load → Option ℕ
 second_from kind seen ls = option_map (λ l. l.at) (slice_get (filter (λ l. is_of_kind kind (number_of l.bytes)) ls) (if seen then 0 else 1))
-
-pub second_start : (kind : ℕ × ℕ) (ls : List Load) → second_of ls kind ≡ second_from kind false (drop 0 ls)
-second_start kind ls = refl
-
-pub second_other : (kind : ℕ × ℕ) (seen : Bool) (ls : List Load) (i : ℕ) (d : Load) → i < length ls → is_of_kind kind (number_of (get_or ls i d).bytes) ≡ false
-    → second_from kind seen (drop i ls) ≡ second_from kind seen (drop (i + 1) ls)
-second_other kind seen ls i d lt other = rw (add-one, drop-cons ls i d, other) refl
-
-pub second_first : (kind : ℕ × ℕ) (ls : List Load) (i : ℕ) (d : Load) → i < length ls → is_of_kind kind (number_of (get_or ls i d).bytes) ≡ true
-    → second_from kind false (drop i ls) ≡ second_from kind true (drop (i + 1) ls)
-second_first kind ls i d lt this = rw (add-one, drop-cons ls i d, this) refl
 
 pub second_here : (kind : ℕ × ℕ) (ls : List Load) (i : ℕ) (d : Load) → i < length ls → is_of_kind kind (number_of (get_or ls i d).bytes) ≡ true
     → second_from kind true (drop i ls) ≡ Some (get_or ls i d).at
@@ -31,10 +20,6 @@ least_assoc None b c = refl
 least_assoc (Some a) None c = refl
 least_assoc (Some a) (Some b) None = refl
 least_assoc (Some a) (Some b) (Some c) = ap Some (omega arith)
-
-pub least_none : (a : Option ℕ) → least a None ≡ a
-least_none None = refl
-least_none (Some a) = refl
 
 pub second_kinds_step : (ls : List Load) (kinds : List (ℕ × ℕ)) (i : ℕ) (d : ℕ × ℕ) (found found' : Option ℕ) → i < length kinds
     → found' ≡ least found (second_of ls (get_or kinds i d))

@@ -1,25 +1,23 @@
 -- Sections in order: the one that holds a word is found by halving, and no other does. An image's sections are in order.
-use Rattle.std.proofs.Common.{◌≡◌, ◌≤◌, ◌<◌, ◌⊎◌, ◌+◌, ℕ, suc, Bool, true, false, not, List, [], ◌∷◌, ◌++◌, length, get_or, map, refl, sym, ap, ◌∙◌, subst, arith, length-append, cond, if◌then◌else◌, nat_lt, inl, inr, Option, Some, None, option_map}
-use Rattle.std.specs.Prelude.{find}
-use Rattle.std.specs.List.{All, AllPairs, position_or_len, position}
+use Rattle.std.proofs.Common.{◌≡◌, ◌≤◌, ◌<◌, ◌⊎◌, ◌+◌, ◌-◌, ◌/◌, ℕ, zero, suc, nat_eq, Bool, true, false, not, List, [], ◌∷◌, ◌++◌, length, get_or, map, refl, sym, ap, ◌∙◌, subst, arith, length-append, if◌then◌else◌, nat_lt, inl, inr, Option, Some, None, option_map}
+use Rattle.std.specs.Prelude.{slice_get, drop}
+use Rattle.std.specs.List.{All, AllPairs, AllByRecursion, position_or_len, position}
 use Rattle.std.specs.List.Sorted.{IsPartitionedBy, IsPartitionPoint}
-use Rattle.std.proofs.lemmas.Bool.{cases_lt, cases_Bool, false≢true}
+use Rattle.std.proofs.lemmas.Bool.{cases_lt, cases_Bool, false≢true, not-false, cond-false, ne_eqb}
 use Rattle.std.proofs.lemmas.Bool.Decides.{nat_tests}
 use Rattle.std.proofs.lemmas.Grind.{common_steps}
 use Rattle.std.proofs.lemmas.List.{length-map}
 use Rattle.std.proofs.lemmas.List.Elements.{All-cons, All-nil, All-append}
 use Rattle.std.proofs.lemmas.List.Kept.{AllPairs-cons}
 use Rattle.std.proofs.lemmas.List.Sums.{position_or_len_is}
-use Rattle.macho_image.specs.Records.{Img, SegmentLoad, SectionLoad}
+use Rattle.macho_image.specs.Records.{Img, Load, SegmentLoad, SectionLoad}
 use Rattle.macho_image.specs.declared.section.Section.{Section}
-use Rattle.macho_image.specs.Macho.{header_size, loads_of, segment_loads, section_of, sections_from}
-use Rattle.macho_image.specs.Rules.{first_segment, sections_stand, sections_start, first_crowded, breaks_segment_shape, breaks_segment_prot, breaks_section_shape, breaks_interposing, breaks_has_relocations}
-use Rattle.dsc_base.specs.declared.fault.Site.{Site}
-use Rattle.dsc_base.specs.declared.rule.Rule.TheVariants.{SegmentShape, SegmentProt, SectionShape, Interposing, HasRelocations}
-use Rattle.macho_image.specs.Breaks.{kind_break, command_break, header_break, section_break, name_break, form_of, IsSound}
-use Rattle.dsc_base.specs.Refusals.{broken, first_break}
-use Rattle.macho_image.proofs.Unbroken.{or_none, broken_none, least_none_both}
-use Rattle.macho_image.specs.Places.{holds, is_behind, section_around, Precedes}
+use Rattle.macho_image.specs.Macho.{header_size, loads_of, segment_load, segment_loads, sections_in, section_of, sections_from}
+use Rattle.macho_image.specs.Rules.{first_segment, is_text, sections_stand, sections_start, first_crowded}
+use Rattle.macho_image.specs.Breaks.{IsSound}
+use Rattle.macho_image.proofs.Unbroken.{when_false, least_none_both}
+use Rattle.macho_image.proofs.HeaderRules.{sound_rules, all_fail}
+use Rattle.macho_image.specs.Places.{holds, is_behind, numbered_section, section_around, Precedes}
 
 -- what the tests say
 pub record IsHeld (w g address : ℕ) (x : Section) : Type 0 where
@@ -159,22 +157,8 @@ pairs_append R (x ∷ xs) ys first second across =
     (pairs_append R xs ys (λ i j d lt inside. first (suc i) (suc j) d (omega arith) (omega arith)) second (λ i d lt. across (suc i) d (omega arith)))
 
 -- each segment's sections stand
-AllStand : ℕ → List SegmentLoad → Type 0
-AllStand size ss = All (λ (s : SegmentLoad). sections_stand s (sections_start size s) 0 s.sections ≡ true) ss
-
-all_stand : (size : ℕ) (ss : List SegmentLoad) → first_segment (λ s. not (sections_stand s (sections_start size s) 0 s.sections)) ss ≡ None → AllStand size ss
-unfolding AllStand
-all_stand size [] none = All-nil (λ (s : SegmentLoad). sections_stand s (sections_start size s) 0 s.sections ≡ true)
-all_stand size (s ∷ ss) none = elim (cases_Bool (sections_stand s (sections_start size s) 0 s.sections)) [
-  | inl stands ↦
-      All-cons (λ (t : SegmentLoad). sections_stand t (sections_start size t) 0 t.sections ≡ true) s ss stands
-      (all_stand size ss (sym (ap (λ (b : Bool). option_map (λ (t : SegmentLoad). t.at) (cond (not b) (Some s) (find (λ t. not (sections_stand t (sections_start size t) 0 t.sections)) ss))) stands) ∙ none))
-  | inr falls ↦
-      absurd (some_none s.at (sym (ap (λ (b : Bool). option_map (λ (t : SegmentLoad). t.at) (cond (not b) (Some s) (find (λ t. not (sections_stand t (sections_start size t) 0 t.sections)) ss))) falls) ∙ none))
-]
-  where
-    some_none : (k : ℕ) → ◌≡◌ {A = Option ℕ} (Some k) None → ⊥
-    some_none k e = cc
+abbrev AllStand : ℕ → List SegmentLoad → Type 0
+AllStand size ss = AllByRecursion (λ (s : SegmentLoad). not (sections_stand s (sections_start size s) 0 s.sections) ≡ false) ss
 
 sections_above : (k : ℕ) (ss : List SegmentLoad) → All (λ (y : Section). k ≤ y.segment) (sections_from k ss)
 unfolding section_of
@@ -188,13 +172,12 @@ sections_above k (s ∷ ss) =
     of_one k (x ∷ xs) = All-cons (λ (y : Section). k ≤ y.segment) (section_of k x) (map (section_of k) xs) (omega arith) (of_one k xs)
 
 in_turn : (size k : ℕ) (ss : List SegmentLoad) → AllStand size ss → AllPairs Precedes (sections_from k ss)
-unfolding AllStand
 in_turn size k [] stand = λ i j d lt inside. absurd (omega arith)
 in_turn size k (s ∷ ss) stand =
-    let here = stand 0 s (omega arith) in
+    let here = not-false (sections_stand s (sections_start size s) 0 s.sections) stand.0 in
     let above = stand_above s (sections_start size s) 0 k s.sections here in
     pairs_append Precedes (map (section_of k) s.sections) (sections_from (k + 1) ss) (stand_in_turn s (sections_start size s) 0 k s.sections here)
-    (in_turn size (k + 1) ss (λ i d lt. stand (suc i) d (omega arith)))
+    (in_turn size (k + 1) ss stand.1)
     (λ i d lt j e inside.
     let p = above i d lt in
     let q = sections_above (k + 1) ss j e inside in
@@ -202,54 +185,37 @@ in_turn size k (s ∷ ss) stand =
 
 few : (before k : ℕ) (ss : List SegmentLoad) → before ≤ 255 → first_crowded before ss ≡ None → before + length (sections_from k ss) ≤ 255
 few before k [] le none = omega arith
-few before k (s ∷ ss) le none = elim (cases_lt 255 (before + length s.sections)) [
-  | inl crowded ↦ absurd (some_none s.at (sym (crowd (nat_lt 255 (before + length s.sections)) true (grind (arith, nat_tests))) ∙ none))
-  | inr room ↦
-      let rest = few (before + length s.sections) (k + 1) ss room (sym (crowd (nat_lt 255 (before + length s.sections)) false (grind (arith, nat_tests))) ∙ none) in
-      let long : length (map (section_of k) s.sections ++ sections_from (k + 1) ss) ≡ length s.sections + length (sections_from (k + 1) ss) =
-      length-append (map (section_of k) s.sections) (sections_from (k + 1) ss) ∙ ap (λ (n : ℕ). n + length (sections_from (k + 1) ss)) (length-map s.sections (section_of k)) in
-      omega (arith, rest, long)
-]
+few before k (s ∷ ss) le none =
+    let parts = when_false (nat_lt 255 (before + length s.sections)) s.at (first_crowded (before + length s.sections) ss) none in
+    let fits : nat_lt 255 (before + length s.sections) ≡ false = parts.0 in
+    let room : before + length s.sections ≤ 255 = grind (arith, nat_tests) in
+    let rest = few (before + length s.sections) (k + 1) ss room parts.1 in
+    let long : length (map (section_of k) s.sections ++ sections_from (k + 1) ss) ≡ length s.sections + length (sections_from (k + 1) ss) =
+    length-append (map (section_of k) s.sections) (sections_from (k + 1) ss) ∙ ap (λ (n : ℕ). n + length (sections_from (k + 1) ss)) (length-map s.sections (section_of k)) in
+    omega (arith, rest, long)
+
+-- a segment's sections begin in it
+pub start_above : (size : ℕ) (l : SegmentLoad) → l.vmaddr ≤ sections_start size l
+start_above size l = go (is_text l)
   where
-    some_none : (k : ℕ) → ◌≡◌ {A = Option ℕ} (Some k) None → ⊥
-    some_none k e = cc
-
-    crowd : (b c : Bool) → b ≡ c → (if b then Some s.at else first_crowded (before + length s.sections) ss) ≡ (if c then Some s.at else first_crowded (before + length s.sections) ss)
-    crowd b c e = ap (λ (x : Bool). if x then Some s.at else first_crowded (before + length s.sections) ss) e
-
--- what rule 12 gives of an image's sections
-section_shape : (image : Img) → IsSound image → breaks_section_shape (header_size image.header) (segment_loads (loads_of image.header)) ≡ None
-unfolding header_break section_break
-section_shape image sound =
-    let ls = loads_of image.header in
-    let ss = segment_loads ls in
-    let size = header_size image.header in
-    let prot : Option Site = broken SegmentProt (breaks_segment_prot ss) in
-    let shape : Option Site = broken SectionShape (breaks_section_shape size ss) in
-    let after : List (Option Site) = broken Interposing (breaks_interposing ss) ∷ broken HasRelocations (breaks_has_relocations ss ls) ∷ [] in
-    let one = or_none (kind_break (form_of image.header) image.header)
-    (first_break (command_break ls ∷ broken SegmentShape (breaks_segment_shape size ss) ∷ section_break size ss ls ∷ name_break ls ∷ [])) sound.unbroken in
-    let two = or_none (command_break ls) (first_break (broken SegmentShape (breaks_segment_shape size ss) ∷ section_break size ss ls ∷ name_break ls ∷ [])) one.1 in
-    let three = or_none (broken SegmentShape (breaks_segment_shape size ss)) (first_break (section_break size ss ls ∷ name_break ls ∷ [])) two.1 in
-    let four = or_none (section_break size ss ls) (first_break (name_break ls ∷ [])) three.1 in
-    let five = or_none prot (first_break (shape ∷ after)) four.0 in
-    let six = or_none shape (first_break after) five.1 in
-    broken_none SectionShape (breaks_section_shape size ss) six.0
+    go : (b : Bool) → l.vmaddr ≤ (if b then l.vmaddr + size else l.vmaddr)
+    go true = omega arith
+    go false = omega arith
 
 -- the sections of an image stand in the order of their segments, and those of one segment don't overlap
 pub sections_in_order : (image : Img) → IsSound image → AllPairs Precedes image.sections
 sections_in_order image sound =
     let size = header_size image.header in
     let ss = segment_loads (loads_of image.header) in
-    let shape = least_none_both (first_segment (λ s. not (sections_stand s (sections_start size s) 0 s.sections)) ss) (first_crowded 0 ss) (section_shape image sound) in
-    subst (λ (xs : List Section). AllPairs Precedes xs) (sym sound.sections) (in_turn size 0 ss (all_stand size ss shape.0))
+    let shape = least_none_both (first_segment (λ s. not (sections_stand s (sections_start size s) 0 s.sections)) ss) (first_crowded 0 ss) (sound_rules image sound).sections in
+    subst (λ (xs : List Section). AllPairs Precedes xs) (sym sound.sections) (in_turn size 0 ss (all_fail (λ s. not (sections_stand s (sections_start size s) 0 s.sections)) ss shape.0))
 
 -- and there are few of them
 pub few_sections : (image : Img) → IsSound image → length image.sections ≤ 255
 few_sections image sound =
     let ss = segment_loads (loads_of image.header) in
     let size = header_size image.header in
-    let shape = least_none_both (first_segment (λ s. not (sections_stand s (sections_start size s) 0 s.sections)) ss) (first_crowded 0 ss) (section_shape image sound) in
+    let shape = least_none_both (first_segment (λ s. not (sections_stand s (sections_start size s) 0 s.sections)) ss) (first_crowded 0 ss) (sound_rules image sound).sections in
     let bound = few 0 0 ss (omega arith) shape.1 in
     subst (λ (xs : List Section). length xs ≤ 255) (sym sound.sections) (omega (arith, bound))
 
@@ -268,3 +234,16 @@ one_holds w g address xs some order i j d first second here there = elim (cases_
         let p = order i j d lt inside in
         let same : (get_or xs i d).segment ≡ (get_or xs j d).segment = omega (arith, h.segment, k.segment) in
         omega (arith, some, p.addresses same, h.to, k.from)
+
+-- a section by its number, which counts from 1
+pub numbered : (xs : List Section) (n : ℕ) (x : Section) → 1 ≤ n → slice_get xs (n - 1) ≡ Some x → numbered_section xs n ≡ Some x
+numbered xs n x counts got = cond-false (nat_eq n 0) None (slice_get xs (n - 1)) (ne_eqb n 0 (λ none. omega (arith, none, counts))) ∙ got
+
+-- a segment command has as many sections as it has room for
+length-sections_in : (n : ℕ) (bytes : List ℕ) → length (sections_in n bytes) ≡ n
+length-sections_in zero bytes = refl
+length-sections_in (suc n) bytes = ap suc (length-sections_in n (drop 80 bytes))
+
+pub sections_room : (l : Load) → length (segment_load l).sections ≡ ((segment_load l).size - 72) / 80
+unfolding segment_load
+sections_room l = length-sections_in ((length l.bytes - 72) / 80) (drop 72 l.bytes)

@@ -109,8 +109,3 @@ inside_here ss g s x apart at low high =
 none_from : (g : ℕ) (ss : List Seg) (x : ℕ) → AllByRecursion (λ (s : Seg). contains s x ≡ false) ss → inside_from g ss x ≡ None
 none_from g [] x none = refl
 none_from g (s ∷ ss) x none = later_from g s ss x none.0 ∙ none_from (g + 1) ss x none.1
-
--- where no segment contains an address, none is found
-pub inside_none : (ss : List Seg) (x : ℕ) → AllByRecursion (λ (s : Seg). contains s x ≡ false) ss → inside ss x ≡ None
-unfolding inside
-inside_none ss x none = none_from 0 ss x none

@@ -1,16 +1,16 @@
 -- Segments share no address exactly where their ranges, sorted, follow one another. Both say that no address is in two ranges, and how many ranges an address is in doesn't hang on their order.
-use Rattle.std.proofs.Common.{◌≡◌, ◌≤◌, ◌<◌, ◌⊎◌, ◌+◌, ◌-◌, ℕ, zero, suc, min, max, Bool, true, false, ◌&&◌, List, [], ◌∷◌, ◌++◌, length, get_or, take, drop, map, refl, sym, ap, ◌∙◌, subst, arith, append_assoc, length-append, ap₂, not, nat_eq, add-one, cond, if◌then◌else◌, nat_le, nat_lt, inl, inr, Option, Some, None, ◌||◌}
+use Rattle.std.proofs.Common.{◌≡◌, ◌≤◌, ◌<◌, ◌⊎◌, ◌+◌, ◌-◌, ℕ, zero, suc, min, max, Bool, true, false, ◌&&◌, List, [], ◌∷◌, ◌++◌, length, get_or, take, drop, map, refl, sym, ap, ◌∙◌, subst, arith, append_assoc, length-append, ap₂, nat_eq, add-one, cond, if◌then◌else◌, nat_le, nat_lt, inl, inr, Option, Some, None, ◌||◌}
 use Rattle.std.specs.Prelude.{filter, is_none, IsPermutation}
 use Rattle.std.specs.List.{list_any, sum_by}
-use Rattle.std.proofs.lemmas.List.{append-nil, take-append-drop, take_more, take_all, get_or-append_right}
+use Rattle.std.proofs.lemmas.List.{append-nil, take-append-drop, take_more, get_or-append_right}
 use Rattle.std.proofs.Math.ListN.{get_or-append}
 use Rattle.std.proofs.lemmas.List.Sums.{sum_by-append}
 use Rattle.std.proofs.lemmas.List.Sorted.{sum_by-IsPermutation}
-use Rattle.std.proofs.lemmas.Bool.{false≢true}
+use Rattle.std.proofs.lemmas.Bool.{false≢true, and_parts, or_parts}
 use Rattle.std.proofs.lemmas.Bool.Decides.{nat_tests}
 use Rattle.macho_image.specs.Records.{SegmentLoad}
-use Rattle.macho_image.specs.Rules.{first_segment, is_well_shaped, misplaced, shares_address, first_crossing, breaks_segment_shape}
-use Rattle.dsc_base.specs.Refusals.{least}
+use Rattle.macho_image.specs.Rules.{shares_address, first_crossing, breaks_segment_shape}
+use Rattle.macho_image.proofs.HeaderRules.{shape_parts}
 use Rattle.macho_image.specs.Addresses.{range_of, has_addresses, ranges_of, are_in_turn}
 
 abbrev pub one_of : Bool → ℕ
@@ -56,10 +56,6 @@ none_if : (b : Bool) → zero_of b ≡ 0 → b ≡ true
 none_if true e = refl
 none_if false e = absurd (omega arith)
 
-both : (a b : Bool) → (a && b) ≡ true → (a ≡ true) × (b ≡ true)
-both true b e = (refl, e)
-both false b e = absurd (cc)
-
 some-none : (k : ℕ) → Some k ≡ None → ⊥
 some-none k e = cc
 
@@ -67,7 +63,7 @@ pub hit_cases : (a : ℕ) (r : ℕ × ℕ) → (hit a r ≡ 0) ⊎ ((hit a r ≡
 unfolding hit
 hit_cases a r = elim (one_if (nat_le r.0 a && nat_lt a r.1)) [
   | inl w ↦ inl w.1
-  | inr w ↦ let parts = both (nat_le r.0 a) (nat_lt a r.1) w.0 in
+  | inr w ↦ let parts = and_parts (nat_le r.0 a) (nat_lt a r.1) w.0 in
       let low : nat_le r.0 a ≡ true = parts.0 in let high : nat_lt a r.1 ≡ true = parts.1 in
       inr (w.1, grind (arith, nat_tests), grind (arith, nat_tests))
 ]
@@ -82,14 +78,11 @@ pub blank_none : (r : ℕ × ℕ) → blank r ≡ 0 → r.0 < r.1
 unfolding blank
 blank_none r e = let some : nat_lt r.0 r.1 ≡ true = none_if (nat_lt r.0 r.1) e in grind (arith, nat_tests)
 
-pub hit_le : (a : ℕ) (r : ℕ × ℕ) → hit a r ≤ 1
-hit_le a r = elim (hit_cases a r) [ inl w ↦ omega arith | inr w ↦ omega (arith, w.0) ]
-
 -- ranges with addresses that follow one another: an address is in one of them at most, and in none below the floor
 pub turn_few : (a floor : ℕ) (rs : List (ℕ × ℕ)) → over blank rs ≡ 0 → are_in_turn floor rs ≡ true → (a < floor → over (hit a) rs ≡ 0) × (over (hit a) rs ≤ 1)
 turn_few a floor [] some turn = (λ below. refl, omega arith)
 turn_few a floor (r ∷ rs) some turn =
-    let parts = both (nat_le floor r.0) (are_in_turn r.1 rs) turn in
+    let parts = and_parts (nat_le floor r.0) (are_in_turn r.1 rs) turn in
     let here : nat_le floor r.0 ≡ true = parts.0 in
     let from : floor ≤ r.0 = grind (arith, nat_tests) in
     let wide : r.0 < r.1 = blank_none r (omega arith) in
@@ -107,9 +100,6 @@ Rises rs = (k : ℕ) (d : ℕ × ℕ) → suc k < length rs → (get_or rs k d).
 
 rises_behind : (r : ℕ × ℕ) (rs : List (ℕ × ℕ)) → Rises (r ∷ rs) → Rises rs
 rises_behind r rs rises = λ k d lt. rises (suc k) d (omega arith)
-
-over_more : (a : ℕ) (r : ℕ × ℕ) (rs : List (ℕ × ℕ)) → over (hit a) rs ≤ over (hit a) (r ∷ rs)
-over_more a r rs = omega arith
 
 -- sorted ranges with addresses that don't follow one another: an address is in two of them
 pub turn_many : (r : ℕ × ℕ) (rs : List (ℕ × ℕ)) → over blank (r ∷ rs) ≡ 0 → Rises (r ∷ rs) → are_in_turn r.1 rs ≡ false → (a : ℕ) × (2 ≤ over (hit a) (r ∷ rs))
@@ -286,24 +276,11 @@ crossing_at ss i d lt apart cross =
     steps ∙ only_one (list_any (λ t. shares_address t last) (take i ss)) last.at (sym (ap is_none steps) ∙ cross) in
     ap (λ (l : List SegmentLoad). first_crossing [] l) (sym (take-append-drop (i + 1) ss)) ∙ crossing_before [] (take (i + 1) ss) (drop (i + 1) ss) last.at here
 
--- where some share an address, there are some, and all of them do
-pub crossing_whole : (ss : List SegmentLoad) → is_none (first_crossing [] ss) ≡ false → (0 < length ss) × (is_none (first_crossing [] (take (length ss) ss)) ≡ false)
-crossing_whole [] cross = absurd (cc)
-crossing_whole (s ∷ ss) cross = (omega arith, ap (λ (l : List SegmentLoad). is_none (first_crossing [] l)) (take_all (length (s ∷ ss)) (s ∷ ss) (omega arith)) ∙ cross)
-
 -- no two segments share an address
 none_of : (p : SegmentLoad → Bool) (ss : List SegmentLoad) (i : ℕ) (d : SegmentLoad) → i < length ss → list_any p ss ≡ false → p (get_or ss i d) ≡ false
 none_of p [] i d lt none = absurd (omega arith)
-none_of p (s ∷ ss) zero d lt none = first_false (p s) (list_any p ss) none
-  where
-    first_false : (a b : Bool) → (a || b) ≡ false → a ≡ false
-    first_false true b e = e
-    first_false false b e = refl
-none_of p (s ∷ ss) (suc i) d lt none = none_of p ss i d (omega arith) (second_false (p s) (list_any p ss) none)
-  where
-    second_false : (a b : Bool) → (a || b) ≡ false → b ≡ false
-    second_false true b e = absurd (cc)
-    second_false false b e = e
+none_of p (s ∷ ss) zero d lt none = (or_parts (p s) (list_any p ss) none).0
+none_of p (s ∷ ss) (suc i) d lt none = none_of p ss i d (omega arith) (or_parts (p s) (list_any p ss) none).1
 
 pub crossing_apart : (earlier ss : List SegmentLoad) → first_crossing earlier ss ≡ None → (i j : ℕ) (d : SegmentLoad) → i < j → length earlier ≤ j → j < length (earlier ++ ss)
     → shares_address (get_or (earlier ++ ss) i d) (get_or (earlier ++ ss) j d) ≡ false
@@ -335,18 +312,4 @@ crossing_apart earlier (s ∷ ss) none i j d lt behind within = elim (one_if (li
 -- the segments of a header that keeps the rule on their shape share no address
 pub segments_apart : (size : ℕ) (ss : List SegmentLoad) → breaks_segment_shape size ss ≡ None → (i j : ℕ) (d : SegmentLoad) → i < j → j < length ss
     → shares_address (get_or ss i d) (get_or ss j d) ≡ false
-segments_apart size ss none i j d lt within = crossing_apart [] ss (kept (nat_lt (length ss) 2) 0 (first_segment (λ s. not (is_well_shaped s)) ss) (first_crossing [] ss) (misplaced size ss) none) i j d lt (omega arith) within
-  where
-    right_none : (a b : Option ℕ) → least a b ≡ None → b ≡ None
-    right_none None b e = e
-    right_none (Some a) None e = absurd (cc)
-    right_none (Some a) (Some b) e = absurd (cc)
-
-    left_none : (a b : Option ℕ) → least a b ≡ None → a ≡ None
-    left_none None b e = refl
-    left_none (Some a) None e = absurd (cc)
-    left_none (Some a) (Some b) e = absurd (cc)
-
-    kept : (few : Bool) (k : ℕ) (a b c : Option ℕ) → (if few then Some k else least a (least b c)) ≡ None → b ≡ None
-    kept true k a b c e = absurd (cc)
-    kept false k a b c e = left_none b c (right_none a (least b c) e)
+segments_apart size ss none i j d lt within = crossing_apart [] ss (shape_parts size ss none).2 i j d lt (omega arith) within

@@ -13,7 +13,7 @@ use Rattle.dsc_base.specs.declared.rule.Rule.{Rule}
 use Rattle.dsc_base.specs.Refusals.{IsRefusal, Refuses}
 use Rattle.macho_image.specs.Runs.{first_fault}
 use Rattle.macho_image.specs.Streams.{Opcodes, End, Refused, Next, Spelling, followed_by, opcodes_in, opcodes_of, Meaning, records, site_in, reading_break}
-use Rattle.macho_image.proofs.WordLaws.{neither}
+use Rattle.macho_image.proofs.Unbroken.{or_none}
 
 opcodes_next : {Op F : Type 0} (spelling : Spelling Op F) (bytes : List ℕ) (at left : ℕ) (r : Result (Op × ℕ) F) → at < length bytes → length bytes ≤ at + left → r ≡ spelling.read bytes at
     → opcodes_in spelling left bytes at ≡ followed_by spelling.ends at r (opcodes_in spelling (left - 1) bytes)
@@ -138,7 +138,7 @@ accepted_run : {S X F : Type 0} (made : S → ℕ → X) (refused : S → ℕ �
     → first_fault (refused s) before offsets ≡ None → AreAccepted P limit before (map (made s) offsets)
 accepted_run made refused P limit s before [] accepts le none = record { few = omega arith; all = All-nil P }
 accepted_run made refused P limit s before (offset ∷ offsets) accepts le none =
-    let two = neither (refused s offset before) (first_fault (refused s) (before + 1) offsets) none in
+    let two = or_none (refused s offset before) (first_fault (refused s) (before + 1) offsets) none in
     let one = accepts s offset before two.0 in
     let rest = accepted_run made refused P limit s (before + 1) offsets accepts (omega (arith, one.1)) two.1 in
     record { few = omega (arith, rest.few); all = All-cons P (made s offset) (map (made s) offsets) one.0 rest.all }
@@ -154,7 +154,7 @@ accepted_records m P limit s before End accepts le none = record { few = omega a
 accepted_records m P limit s before (Refused at fault) accepts le none = absurd (cc)
 accepted_records m P limit s before (Next at opcode more) accepts le none =
     let offsets = m.recorded s opcode in
-    let two = neither (option_map (site_in m.rule at) (first_fault (m.refused s) before offsets)) (reading_break m (m.moved s opcode) (before + length offsets) more) none in
+    let two = or_none (option_map (site_in m.rule at) (first_fault (m.refused s) before offsets)) (reading_break m (m.moved s opcode) (before + length offsets) more) none in
     let one = accepted_run m.made m.refused P limit s before offsets accepts le (no_site m.rule at (first_fault (m.refused s) before offsets) two.0) in
     let long : length (map (m.made s) offsets) ≡ length offsets = length-map offsets (m.made s) in
     let rest = accepted_records m P limit (m.moved s opcode) (before + length offsets) more accepts (omega (arith, one.few, long)) two.1 in

@@ -1,8 +1,9 @@
 -- What follows where an image breaks no rule.
-use Rattle.std.proofs.Common.{◌≡◌, ◌≤◌, ◌<◌, ◌+◌, ◌^◌, ℕ, zero, suc, Bool, true, false, not, ◌&&◌, List, [], ◌∷◌, take, drop, length, map, refl, sym, ap, ap₂, ◌∙◌, subst, arith, cond, nat_lt, nat_eq, if◌then◌else◌, Option, Some, None, option_map, length-drop, get_or}
+use Rattle.std.proofs.Common.{◌≡◌, ◌≤◌, ◌<◌, ◌+◌, ◌^◌, ℕ, zero, suc, Bool, true, false, not, List, [], ◌∷◌, take, drop, length, map, refl, sym, ap, ap₂, ◌∙◌, subst, arith, cond, nat_lt, nat_eq, if◌then◌else◌, Option, Some, None, option_map, length-drop, get_or}
 use Rattle.std.specs.Prelude.{find, filter}
 use Rattle.std.specs.Option.{option_or}
 use Rattle.std.proofs.lemmas.List.{length-take-le, length-take}
+use Rattle.std.proofs.lemmas.Bool.{not-true, not-false, and_parts}
 use Rattle.std.proofs.lemmas.Bool.Decides.{nat_tests}
 use Rattle.dsc_base.specs.Numbers.{number_at}
 use Rattle.dsc_base.proofs.NumberLaws.{number_at-lt, number_at-take}
@@ -19,9 +20,19 @@ use Rattle.macho_image.specs.Rules.{first_segment, says_cached, flags_fit, break
 use Rattle.dsc_base.specs.Refusals.{least, IsRefusal, broken, first_break}
 use Rattle.macho_image.specs.Breaks.{kind_break, command_break, section_break, name_break, header_break, load_break, image_break, form_of, unread, image_unless, image_at, IsSound}
 
-pub or_none : (a b : Option Site) → option_or a b ≡ None → (a ≡ None) × (b ≡ None)
+-- neither of two, where the first of them is none
+pub or_none : {X : Type 0} (a b : Option X) → option_or a b ≡ None → (a ≡ None) × (b ≡ None)
 or_none None b e = (refl, e)
 or_none (Some s) b e = absurd (cc)
+
+-- a test that refuses where it holds, and one that refuses where it doesn't
+pub when_false : (b : Bool) (at : ℕ) (o : Option ℕ) → (if b then Some at else o) ≡ None → (b ≡ false) × (o ≡ None)
+when_false true at o e = absurd (cc)
+when_false false at o e = (refl, e)
+
+pub when_true : (b : Bool) (at : ℕ) (o : Option ℕ) → (if b then o else Some at) ≡ None → (b ≡ true) × (o ≡ None)
+when_true true at o e = (refl, e)
+when_true false at o e = absurd (cc)
 
 pub broken_none : (rule : Rule) (place : Option ℕ) → broken rule place ≡ None → place ≡ None
 broken_none rule None e = refl
@@ -74,26 +85,14 @@ third_not false true c k l m e = absurd (cc)
 third_not false false true k l m e = absurd (cc)
 third_not false false false k l m e = refl
 
-not_not : (b : Bool) → not b ≡ false → b ≡ true
-not_not true e = refl
-not_not false e = absurd (cc)
-
-second_of_both : (a b : Bool) → (a && b) ≡ true → b ≡ true
-second_of_both true b e = e
-second_of_both false b e = absurd (cc)
-
 -- the flags of such a header tell its form
 form_fits : (form : Form) (flags : ℕ) → flags_fit form flags ≡ true → (if says_cached flags then Cached else Standalone) ≡ form
-form_fits Standalone flags fits = ap (λ (b : Bool). if b then Cached else Standalone) (is_not (says_cached flags) (second_of_both _ (not (says_cached flags)) fits))
-  where
-    is_not : (b : Bool) → not b ≡ true → b ≡ false
-    is_not true e = absurd (cc)
-    is_not false e = refl
-form_fits Cached flags fits = ap (λ (b : Bool). if b then Cached else Standalone) (second_of_both _ (says_cached flags) fits)
+form_fits Standalone flags fits = ap (λ (b : Bool). if b then Cached else Standalone) (not-true (says_cached flags) (and_parts _ (not (says_cached flags)) fits).1)
+form_fits Cached flags fits = ap (λ (b : Bool). if b then Cached else Standalone) (and_parts _ (says_cached flags) fits).1
 
 pub form_is : (form : Form) (header : List ℕ) → breaks_wrong_kind form header ≡ None → form_of header ≡ form
 form_is form header none =
-    form_fits form (number_at 4 header 24) (not_not (flags_fit form (number_at 4 header 24)) (third_not (not (nat_eq (number_at 4 header 4) 0x0100_0007)) (not (nat_eq (number_at 4 header 12) 6)) (not (flags_fit form (number_at 4 header 24))) 4 12 24 none))
+    form_fits form (number_at 4 header 24) (not-false (flags_fit form (number_at 4 header 24)) (third_not (not (nat_eq (number_at 4 header 4) 0x0100_0007)) (not (nat_eq (number_at 4 header 12) 6)) (not (flags_fit form (number_at 4 header 24))) 4 12 24 none))
 
 pub header_unbroken : (form : Form) (b : List ℕ) (h : ℕ) → IsUnbroken form b h → header_break form (header_in b h) ≡ None
 unfolding header_break
@@ -102,7 +101,7 @@ header_unbroken form b h whole =
     λ j. first_break (whole.kind j ∷ whole.commands j ∷ shape j ∷ whole.sections j ∷ whole.names j ∷ [])
 
 -- a segment whose file range lies in the bytes has as many bytes as its filesize
-find_none : (b : Bool) (s : SegmentLoad) (o : Option SegmentLoad) → option_map (λ (t : SegmentLoad). t.at) (cond b (Some s) o) ≡ None → (b ≡ false) × (option_map (λ (t : SegmentLoad). t.at) o ≡ None)
+pub find_none : (b : Bool) (s : SegmentLoad) (o : Option SegmentLoad) → option_map (λ (t : SegmentLoad). t.at) (cond b (Some s) o) ≡ None → (b ≡ false) × (option_map (λ (t : SegmentLoad). t.at) o ≡ None)
 find_none true s o e = absurd (cc)
 find_none false s o e = (refl, e)
 
@@ -131,14 +130,10 @@ header_short : (b : List ℕ) (h : ℕ) → length (header_in b h) ≤ header_si
 unfolding header_in
 header_short b h = omega (arith, length-take (header_size (drop h b)) (drop h b))
 
-shape_inside : (short : Bool) (o : Option ℕ) → (if short then Some 20 else o) ≡ None → short ≡ false
-shape_inside true o e = absurd (cc)
-shape_inside false o e = refl
-
 pub header_whole : (b : List ℕ) (h : ℕ) → breaks_command_shape (header_in b h) ≡ None → length (header_in b h) ≡ header_size (header_in b h)
 header_whole b h none =
     let inside : nat_lt (length (header_in b h)) (header_size (header_in b h)) ≡ false =
-    shape_inside (nat_lt (length (header_in b h)) (header_size (header_in b h))) (misshapen (number_at 4 (header_in b h) 16) 32 (drop 32 (header_in b h))) none in
+    (when_false (nat_lt (length (header_in b h)) (header_size (header_in b h))) 20 (misshapen (number_at 4 (header_in b h) 16) 32 (drop 32 (header_in b h))) none).0 in
     let long : header_size (header_in b h) ≤ length (header_in b h) = grind (arith, nat_tests) in
     omega (arith, long, header_short b h, header_ends b h)
 
@@ -212,11 +207,11 @@ none_broken form b h header ls ss size is loads segments sized kind commands unb
     λ j. first_break (kind_none j ∷ commands_none j ∷ loads_none j ∷ [])
 
 -- a header has fewer segment commands than 2 ^ 32
-length-commands_in : (n : ℕ) (bytes : List ℕ) → length (commands_in n bytes) ≡ n
+pub length-commands_in : (n : ℕ) (bytes : List ℕ) → length (commands_in n bytes) ≡ n
 length-commands_in zero bytes = refl
 length-commands_in (suc n) bytes = omega (arith, length-commands_in n (drop (size_of bytes) bytes))
 
-length-loads_from : (at : ℕ) (cs : List (List ℕ)) → length (loads_from at cs) ≡ length cs
+pub length-loads_from : (at : ℕ) (cs : List (List ℕ)) → length (loads_from at cs) ≡ length cs
 length-loads_from at [] = refl
 length-loads_from at (c ∷ cs) = omega (arith, length-loads_from (at + length c) cs)
 
@@ -229,8 +224,8 @@ length-segment_loads (l ∷ ls) = counted (is_segment (number_of l.bytes)) l ls 
     counted true l ls h = omega arith
     counted false l ls h = omega arith
 
-pub few_segments : (header : List ℕ) → ((k : ℕ) → get_or header k 0 < 256) → length (segment_loads (loads_of header)) < 2 ^ 32
-few_segments header bytes =
+pub few_loads : (header : List ℕ) → ((k : ℕ) → get_or header k 0 < 256) → length (segment_loads (loads_of header)) < 2 ^ 32
+few_loads header bytes =
     let count : number_at 4 header 16 < 256 ^ 4 = number_at-lt 4 header 16 bytes in
     omega (arith, count, length-segment_loads (loads_of header), length-loads_from 32 (commands_of header), length-commands_in (number_at 4 header 16) (drop 32 header))
 

@@ -1,15 +1,15 @@
 -- Walking over commands that are whole, one at a time.
-use Rattle.std.proofs.Common.{◌≡◌, ◌≤◌, ◌<◌, ◌+◌, ◌^◌, ℕ, suc, Bool, true, false, not, ◌||◌, List, ◌∷◌, take, drop, length, refl, sym, ap, ◌∙◌, subst, arith, if◌then◌else◌, nat_eq, nat_lt, Option, Some, None, length-drop}
+use Rattle.std.proofs.Common.{◌≡◌, ◌≤◌, ◌+◌, ℕ, suc, Bool, true, false, not, ◌||◌, List, ◌∷◌, take, drop, length, refl, sym, ap, ◌∙◌, subst, arith, if◌then◌else◌, nat_eq, nat_lt, Option, Some, None, length-drop}
 use Rattle.std.proofs.lemmas.Bool.Decides.{nat_tests}
 use Rattle.std.proofs.lemmas.List.{length-take-le}
 use Rattle.dsc_base.specs.Numbers.{number_at}
 use Rattle.macho_image.specs.Records.{Img, Load}
-use Rattle.macho_image.specs.Macho.{header_size, size_of, commands_in, loads_from}
-use Rattle.macho_image.specs.Rules.{begins_whole, misshapen, breaks_command_shape}
+use Rattle.macho_image.specs.Macho.{size_of, commands_in, loads_from}
+use Rattle.macho_image.specs.Rules.{begins_whole, misshapen}
 use Rattle.macho_image.specs.Breaks.{kind_break, form_of, header_break, IsSound}
 use Rattle.macho_image.specs.Walk.{AreWhole}
 use Rattle.macho_image.proofs.Splitting.{begins_whole-front}
-use Rattle.macho_image.proofs.Unbroken.{or_none, kind_unbroken, IsWholeHeader}
+use Rattle.macho_image.proofs.Unbroken.{or_none, when_true, kind_unbroken, IsWholeHeader}
 
 -- of whole commands the first begins the rest, and those behind it are whole
 pub record IsStep (left at : ℕ) (rest : List ℕ) : Type 0 where
@@ -18,13 +18,9 @@ pub record IsStep (left at : ℕ) (rest : List ℕ) : Type 0 where
   pub size : length (take (size_of rest) rest) ≡ size_of rest
   pub loads : loads_from at (commands_in (suc left) rest) ≡ record { at = at; bytes = take (size_of rest) rest } ∷ loads_from (at + size_of rest) (commands_in left (drop (size_of rest) rest))
 
-first_whole : (b : Bool) (at : ℕ) (later : Option ℕ) → (if b then later else Some at) ≡ None → (b ≡ true) × (later ≡ None)
-first_whole true at later none = (refl, none)
-first_whole false at later none = absurd (cc)
-
 pub walk_step : (left at : ℕ) (rest : List ℕ) → AreWhole (suc left) at rest → IsStep left at rest
 walk_step left at rest are =
-    let first = first_whole (begins_whole rest) at (misshapen left (at + size_of rest) (drop (size_of rest) rest)) are.shape in
+    let first = when_true (begins_whole rest) at (misshapen left (at + size_of rest) (drop (size_of rest) rest)) are.shape in
     let front = begins_whole-front rest first.0 in
     let len : length (take (size_of rest) rest) ≡ size_of rest = length-take-le (size_of rest) rest front.within in
     record {
@@ -42,15 +38,6 @@ pub walk_behind : (left at : ℕ) (rest rest' piece : List ℕ) → IsStep left 
 walk_behind left at rest rest' piece step is cut =
     let len : at + size_of rest ≡ at + length piece = ap (λ (n : ℕ). at + n) (sym (ap length is ∙ step.size)) in
     subst (λ (b : List ℕ). AreWhole left (at + length piece) b) (sym cut) (subst (λ (n : ℕ). AreWhole left n (drop (size_of rest) rest)) len step.behind)
-
--- a header's own commands
-pub walk_start : (header : List ℕ) → 32 ≤ length header → length header < 2 ^ 63 → breaks_command_shape header ≡ None → AreWhole (number_at 4 header 16) 32 (drop 32 header)
-walk_start header front few none =
-    record { shape = unbroken (nat_lt (length header) (header_size header)) (misshapen (number_at 4 header 16) 32 (drop 32 header)) none; short = omega (arith, few, length-drop 32 header) }
-  where
-    unbroken : (b : Bool) (o : Option ℕ) → (if b then Some 20 else o) ≡ None → o ≡ None
-    unbroken true o none = absurd (cc)
-    unbroken false o none = none
 
 -- an image's header is one whose commands are whole
 pub sound_header : (image : Img) → IsSound image → IsWholeHeader (form_of image.header) image.header

@@ -13,10 +13,7 @@ use Rattle.macho_image.specs.declared.places.record.PlaceFault.TheVariants.{Outs
 use Rattle.macho_image.specs.Places.{lies_in, holds, section_at, segment_fault, section_fault, word_fault, address_in, fault_in, place_fault, location_in, location, IsWord}
 use Rattle.dsc_base.specs.Limits.{record_limit}
 use Rattle.macho_image.proofs.SectionLaws.{IsHeld, held, no_section}
-
-pub neither : {X : Type 0} (a b : Option X) → option_or a b ≡ None → (a ≡ None) × (b ≡ None)
-neither None b none = (refl, none)
-neither (Some x) b none = absurd (cc)
+use Rattle.macho_image.proofs.Unbroken.{or_none}
 
 -- the tests, where none of them fails
 pub record IsInside (s : Seg) (address : ℕ) : Type 0 where
@@ -117,6 +114,6 @@ accepted_one image (Some n) offset before none = go (slice_get image.segments n)
     go None there none = absurd (cc)
     go (Some s) there none =
         let address = address_in s offset in
-        let one = neither (segment_fault s address) (option_or (section_fault (section_at image.sections n address)) (word_fault address before)) none in
-        let two = neither (section_fault (section_at image.sections n address)) (word_fault address before) one.1 in
+        let one = or_none (segment_fault s address) (option_or (section_fault (section_at image.sections n address)) (word_fault address before)) none in
+        let two = or_none (section_fault (section_at image.sections n address)) (word_fault address before) one.1 in
         with_section s (section_at image.sections n address) there refl two.0 one.0 two.1

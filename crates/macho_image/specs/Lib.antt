@@ -14,5 +14,6 @@ pub mod Streams
 pub mod Nlists
 pub mod TableRules
 pub mod Universal
+pub mod Files
 pub mod Format
 pub mod Walk

@@ -8,6 +8,7 @@ mod command;
 mod commands;
 mod contents;
 mod facts;
+mod files;
 mod form;
 pub mod format;
 mod header;
@@ -29,6 +30,7 @@ mod universal;
 
 pub use command::Command;
 pub use commands::Commands;
+pub use files::read_images;
 pub use form::{Form, LinkKind};
 pub use image::{Dependency, Image, Segment, Streams};
 pub use place::{Location, Moved, Moves};

@@ -1,5 +1,5 @@
 -- The segments of an image with `__LINKEDIT` by its addresses alone, looked up.
-use Rattle.std.proofs.Common.{◌≡◌, ◌<◌, ◌≤◌, ◌+◌, ◌-◌, ℕ, zero, suc, Bool, true, false, List, [], ◌∷◌, ◌++◌, length, refl, sym, ap, ◌∙◌, arith, if◌then◌else◌, Option, Some, None}
+use Rattle.std.proofs.Common.{◌≡◌, ◌+◌, ◌-◌, ℕ, zero, suc, Bool, true, false, List, [], ◌∷◌, ◌++◌, length, refl, sym, ap, ◌∙◌, arith, if◌then◌else◌, Option, Some, None}
 use Rattle.std.specs.Prelude.{slice_get}
 use Rattle.std.specs.Option.{option_or}
 use Rattle.dsc_base.specs.declared.fault.Span.{Span}
@@ -8,7 +8,6 @@ use Rattle.macho_image.specs.declared.places.segment_index.Inside.{Inside}
 use Rattle.macho_image.specs.declared.place.Location.{Location}
 use Rattle.macho_image.specs.Segments.{contains, inside_from, inside, number_of, number_within, value_of}
 use Rattle.macho_image.proofs.NumberLaws.{number_past}
-use Rattle.prebind.specs.Places.{is_linkedit_at}
 use Rattle.prebind.specs.Framed.{covers}
 use Rattle.prebind.specs.Bodies.{linkedit_at, whole_of}
 
@@ -58,12 +57,6 @@ get_other [] s zero other = absurd (other refl)
 get_other [] s (suc g) other = refl
 get_other (t ∷ ts) s zero other = refl
 get_other (t ∷ ts) s (suc g) other = get_other ts s g (λ is. other (ap suc is))
-
-pub named_in_body : (ss : List Seg) (linkedit : Span) (g : ℕ) → is_linkedit_at (slice_get (whole_of ss linkedit) g) ≡ is_linkedit_at (slice_get ss g)
-named_in_body [] linkedit zero = refl
-named_in_body [] linkedit (suc g) = refl
-named_in_body (s ∷ ss) linkedit zero = refl
-named_in_body (s ∷ ss) linkedit (suc g) = named_in_body ss linkedit g
 
 number_in_body : (ss : List Seg) (linkedit : Span) (g address : ℕ) → number_within 8 (slice_get (whole_of ss linkedit) g) address ≡ number_within 8 (slice_get ss g) address
 unfolding number_of

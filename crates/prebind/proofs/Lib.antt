@@ -1,3 +1,4 @@
+pub mod AllStreams
 pub mod AskedLaws
 pub mod BodyLaws
 pub mod BoundLaws
@@ -13,6 +14,7 @@ pub mod OrderLaws
 pub mod OrderedWords
 pub mod OutlineLaws
 pub mod PlaceLaws
+pub mod PlacedLists
 pub mod ProbeLaws
 pub mod ResolveLaws
 pub mod SameLaws

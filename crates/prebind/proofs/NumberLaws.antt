@@ -7,6 +7,7 @@ use Rattle.split_info.specs.declared.reference.RefKind.TheVariants.{Pointer64, D
 use Rattle.prebind.specs.declared.resolved.WordTarget.{WordTarget}
 use Rattle.prebind.specs.declared.resolved.WordTarget.TheVariants.{Place, Constant}
 use Rattle.prebind.specs.Numbers.{Starts, extended, led_to, LeadsTo, counted_to, cut_to, number_to, fits, CanLead}
+use Rattle.macho_image.proofs.AboveLaws.{wrap_fits}
 
 -- a distance that is counted is gone back
 counted_back : (a x : ℕ) → a < 2 ^ 64 → x < 2 ^ 64 → wrap (a + above a x) ≡ x
@@ -22,13 +23,10 @@ unsigned_back : (a x : ℕ) → a < 2 ^ 64 → x < 2 ^ 64 → fits ImageOff32 (a
 unfolding fits above
 unsigned_back a x low small fit = grind (arith, nat_tests)
 
-wrapped : (n : ℕ) → wrap n < 2 ^ 64
-wrapped n = omega arith
-
 pub number_leads : (starts : Starts) (location header : ℕ) (kind : RefKind) (target : WordTarget) → location < 2 ^ 64 → header < 2 ^ 64 → CanLead starts location header kind target → LeadsTo starts location header kind (number_to starts location header kind target) target
 unfolding led_to counted_to cut_to number_to
 number_leads starts location header Pointer64 (Place k g d) low low_header can = refl
-number_leads starts location header Delta32 (Place k g d) low low_header can = signed_back location (wrap (starts k g + d)) low (wrapped (starts k g + d)) can
-number_leads starts location header Delta64 (Place k g d) low low_header can = counted_back location (wrap (starts k g + d)) low (wrapped (starts k g + d))
-number_leads starts location header ImageOff32 (Place k g d) low low_header can = unsigned_back header (wrap (starts k g + d)) low_header (wrapped (starts k g + d)) can
+number_leads starts location header Delta32 (Place k g d) low low_header can = signed_back location (wrap (starts k g + d)) low (wrap_fits (starts k g + d)) can
+number_leads starts location header Delta64 (Place k g d) low low_header can = counted_back location (wrap (starts k g + d)) low (wrap_fits (starts k g + d))
+number_leads starts location header ImageOff32 (Place k g d) low low_header can = unsigned_back header (wrap (starts k g + d)) low_header (wrap_fits (starts k g + d)) can
 number_leads starts location header kind (Constant c) low low_header can = refl

@@ -191,11 +191,11 @@ named_stays ss (e ∷ es) name t none is =
       | inr other ↦ named_stays ss es name t parts.1 (sym (cond-false (pointwise nat_eq name e.name) (Some e.target) (target_named es name) other) ∙ is)
     ]
 
-unbroken : (k : ℕ) (o : Option ℕ) → option_map (in_image k) (broken ExportOutside o) ≡ None → o ≡ None
+pub unbroken : (k : ℕ) (o : Option ℕ) → option_map (in_image k) (broken ExportOutside o) ≡ None → o ≡ None
 unbroken k None is = refl
 unbroken k (Some n) is = absurd (let e : ◌≡◌ {A = Option Break} (Some (record { rule = ExportOutside; image = k; at = n })) None = is in cc)
 
-none_strays : (set : ImageSet) (k : ℕ) → export_break set k ≡ None → position (λ (e : Export). strays (segments_at set.images k) e.target) (get_or (exports_in set.streams) k []) ≡ None
+pub none_strays : (set : ImageSet) (k : ℕ) → export_break set k ≡ None → position (λ (e : Export). strays (segments_at set.images k) e.target) (get_or (exports_in set.streams) k []) ≡ None
 unfolding export_break
 none_strays set k none = unbroken k (position (λ (e : Export). strays (segments_at set.images k) e.target) (get_or (exports_in set.streams) k [])) none
 

@@ -1,30 +1,25 @@
--- The set that images make is sound where their streams break no rule, and neither do their links.
+-- The set that images make is sound where their streams break no rule, and or_none do their links.
 use Rattle.std.proofs.Common.{◌≡◌, ◌≤◌, ℕ, Option, Some, None, List, length, map, All, refl, sym, ap, ◌∙◌, subst, inl}
 use Rattle.std.specs.Prelude.{slice_get, option_map}
-use Rattle.std.specs.Option.{option_or}
 use Rattle.std.proofs.lemmas.List.{length-map}
 use Rattle.std.proofs.lemmas.List.Elements.{All-get_or}
 use Rattle.std.proofs.lemmas.Option.{slice_get-map, slice_get_within, get_or_from_slice_get}
-use Rattle.dsc_base.specs.declared.fault.Site.{Site}
 use Rattle.macho_image.specs.Records.{Img}
 use Rattle.dep_closure.specs.Linked.{Linked, links_of}
 use Rattle.dep_closure.specs.Breaks.{link_break}
 use Rattle.prebind.specs.Sets.{StreamLists, streams_break, lists_of, image_set, AreStreamsOf, IsSoundSet}
-
-neither : (a b : Option Site) → option_or a b ≡ None → (a ≡ None) × (b ≡ None)
-neither None b none = (refl, none)
-neither (Some s) b some = absurd (cc)
+use Rattle.macho_image.proofs.Unbroken.{or_none}
 
 pub streams_of_image : (image : Img) → streams_break image ≡ None → AreStreamsOf image (lists_of image)
 unfolding streams_break lists_of
 streams_of_image image none =
-    let rebase = neither _ _ none in
-    let bind = neither _ _ rebase.1 in
-    let lazy = neither _ _ bind.1 in
-    let weak = neither _ _ lazy.1 in
-    let clash = neither _ _ weak.1 in
-    let trie = neither _ _ clash.1 in
-    let split = neither _ _ trie.1 in
+    let rebase = or_none _ _ none in
+    let bind = or_none _ _ rebase.1 in
+    let lazy = or_none _ _ bind.1 in
+    let weak = or_none _ _ lazy.1 in
+    let clash = or_none _ _ weak.1 in
+    let trie = or_none _ _ clash.1 in
+    let split = or_none _ _ trie.1 in
     record {
       rebases = refl;
       rebases_accepted = rebase.0;

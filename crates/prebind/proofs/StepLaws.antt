@@ -2,7 +2,7 @@
 use Rattle.std.proofs.Common.{◌≡◌, ◌<◌, ◌≤◌, ◌+◌, ℕ, zero, suc, Bool, true, false, ◌||◌, ◌&&◌, nat_eq, List, [], ◌∷◌, ◌++◌, length, get_or, map, refl, sym, ap, ap₂, subst, ◌∙◌, arith, if◌then◌else◌, inl, inr, Some, length-append}
 use Rattle.std.specs.List.{list_any, sum_by}
 use Rattle.std.specs.Cmp.Lexicographic.{pointwise, bytes_decides}
-use Rattle.std.proofs.lemmas.Bool.{cond-false, cases_Bool}
+use Rattle.std.proofs.lemmas.Bool.{cond-false, cases_Bool, and_parts, or_right}
 use Rattle.std.proofs.lemmas.Bool.Decides.{nat_tests}
 use Rattle.std.proofs.lemmas.List.Folds.{list_any-append}
 use Rattle.std.proofs.lemmas.List.Sums.{sum_by-cons}
@@ -22,14 +22,9 @@ abbrev pub unmet : List Pair → List Pair → ℕ
 unmet met [] = 0
 unmet met (p ∷ ps) = (if is_met met p then 0 else 1) + unmet met ps
 
-both : (a b : Bool) → (a && b) ≡ true → (a ≡ true) × (b ≡ true)
-both true true is = (refl, refl)
-both true false is = cc
-both false b is = cc
-
 pub same_is : (p q : Pair) → same_pair p q ≡ true → p ≡ q
 same_is p q same =
-    let parts = both (nat_eq p.0 q.0) (pointwise nat_eq p.1 q.1) same in
+    let parts = and_parts (nat_eq p.0 q.0) (pointwise nat_eq p.1 q.1) same in
     let image : p.0 ≡ q.0 = let t = parts.0 in grind (arith, nat_tests, t) in
     let name : p.1 ≡ q.1 = (bytes_decides p.1 q.1).0 parts.1 in
     λ j. (image j, name j)
@@ -50,11 +45,7 @@ met_before : (met : List Pair) (q p : Pair) → is_met met p ≡ true → is_met
 met_before met q p is = met_grown met q p ∙ ap (λ (b : Bool). b || same_pair p q) is
 
 met_last : (met : List Pair) (q p : Pair) → same_pair p q ≡ true → is_met (met ++ q ∷ []) p ≡ true
-met_last met q p same = met_grown met q p ∙ (ap (λ (b : Bool). is_met met p || b) same ∙ or_true (is_met met p))
-  where
-    or_true : (b : Bool) → (b || true) ≡ true
-    or_true true = refl
-    or_true false = refl
+met_last met q p same = met_grown met q p ∙ (ap (λ (b : Bool). is_met met p || b) same ∙ or_right (is_met met p) true refl)
 
 abbrev new : Bool → ℕ
 new met = if met then 0 else 1
@@ -99,12 +90,8 @@ target_pair k (e ∷ es) name t is = elim (cases_Bool (pointwise nat_eq name e.n
       ap (λ (b : Bool). b || list_any (same_pair (k, name)) (map (λ (x : Export). let p : Pair = (k, x.name) in p) es)) here
   | inr other ↦
       let rest = target_pair k es name t (sym (cond-false (pointwise nat_eq name e.name) (Some e.target) (target_named es name) other) ∙ is) in
-      or_rest (same_pair (k, name) (k, e.name)) (list_any (same_pair (k, name)) (map (λ (x : Export). let p : Pair = (k, x.name) in p) es)) rest
+      or_right (same_pair (k, name) (k, e.name)) (list_any (same_pair (k, name)) (map (λ (x : Export). let p : Pair = (k, x.name) in p) es)) rest
 ]
-  where
-    or_rest : (a b : Bool) → b ≡ true → (a || b) ≡ true
-    or_rest true b is = refl
-    or_rest false b is = is
 
 pub has_pair : (k i : ℕ) (exports : List (List Export)) (name : List ℕ) (t : Target) → target_named (get_or exports i []) name ≡ Some t → list_any (same_pair (k + i, name)) (pairs_from k exports) ≡ true
 unfolding target_named
@@ -123,11 +110,7 @@ has_pair k (suc i) (es ∷ ess) name t is =
     let at : suc k + i ≡ k + suc i = omega arith in
     let later : list_any (same_pair (k + suc i, name)) (pairs_from (suc k) ess) ≡ true = subst (λ (n : ℕ). list_any (same_pair (n, name)) (pairs_from (suc k) ess) ≡ true) at rest in
     list_any-append (same_pair (k + suc i, name)) (map (λ (e : Export). let p : Pair = (k, e.name) in p) es) (pairs_from (suc k) ess)
-    ∙ or_later (list_any (same_pair (k + suc i, name)) (map (λ (e : Export). let p : Pair = (k, e.name) in p) es)) (list_any (same_pair (k + suc i, name)) (pairs_from (suc k) ess)) later
-  where
-    or_later : (a b : Bool) → b ≡ true → (a || b) ≡ true
-    or_later true b is = refl
-    or_later false b is = is
+    ∙ or_right (list_any (same_pair (k + suc i, name)) (map (λ (e : Export). let p : Pair = (k, e.name) in p) es)) (list_any (same_pair (k + suc i, name)) (pairs_from (suc k) ess)) later
 
 -- there are as many pairs as exports
 pub length-pairs_from : (k : ℕ) (exports : List (List Export)) → length (pairs_from k exports) ≡ sum_by length exports

@@ -5,6 +5,7 @@ pub mod Framed
 pub mod Indexed
 pub mod Met
 pub mod Numbers
+pub mod Placed
 pub mod Places
 pub mod Probes
 pub mod Resolves

@@ -23,10 +23,10 @@ mod words;
 
 pub use exports::check_exports;
 pub use index::{Frame, Indexed, index_set};
-pub use place::{place_words, place_words_by};
+pub use place::{place_binds_by, place_words, place_words_by};
 pub use place_indexed::{body_segments, place_words_indexed};
 pub use probing::resolve_indexed;
-pub use reading::read_streams;
+pub use reading::{read_all_streams, read_streams};
 pub use resolution::resolve;
 pub use resolved::{PlacedWord, Resolved, WordTarget};
 pub use set::{ImageStreams, Set};

@@ -1,12 +1,13 @@
 // The words of an image given their places.
-ghost use Rattle.std.specs.Prelude.{◌≡◌, ◌<◌, length, IfOk};
-ghost use Rattle.dsc_base.specs.Refusals.{RefusesSet};
+ghost use Rattle.std.specs.Prelude.{◌≡◌, ◌<◌, length, option_map, IfOk};
+ghost use Rattle.dsc_base.specs.Refusals.{in_image, RefusesSet};
 ghost use Rattle.prebind.specs.Indexed.{IsIndexOf};
 ghost use Rattle.prebind.specs.Sets.{IsSoundSet};
 ghost use Rattle.prebind.specs.Steps.{set_of};
 ghost use Rattle.prebind.specs.Words as spec;
 ghost use Rattle.prebind.specs.WordRules as rules;
 
+use crate::place_indexed::place_binds;
 use crate::{Indexed, PlacedWord, Set, body_segments, index_set, place_words_indexed};
 use dsc_base::SetFault;
 use export_trie::Steps;
@@ -85,4 +86,47 @@ fn place_counted<L: Ledger>(
         &streams.references,
         &mut steps,
     )
+}
+
+/// The bound words of an image in the order of its binds, each with where it leads, by an index of the set.
+///
+/// Refuses with the bind's index `BadOrdinal`, `UnresolvedSymbol` and `ReexportLoop`, as `place_words` does.
+/// `Memory` says that memory ran out.
+pub fn place_binds_by(
+    alloc: Global,
+    set: &Set<'_, '_>,
+    indexed: &Indexed,
+    image: u32,
+) -> Result<Vec<PlacedWord>, SetFault>
+    requires index { IsIndexOf (set_of set.now) indexed.now }
+    requires image { image < length set.now.images.now }
+    ensures found { IfOk result (λ v. v.items ≡ spec.bound_words (set_of set.now) image) }
+    ensures cause { RefusesSet (option_map (in_image image) (rules.symbol_break (set_of set.now) image)) result }
+{
+    place_binds_counted::<Brand>(alloc, set, indexed, image, Blank::new(1))
+}
+
+// The same, with a counter of steps of its own.
+#[tactic(auto, unfolding(crate::specs::Words::bound_words, crate::specs::WordRules::symbol_break))]
+fn place_binds_counted<L: Ledger>(
+    alloc: Global,
+    set: &Set<'_, '_>,
+    indexed: &Indexed,
+    image: u32,
+    blank: Blank,
+) -> Result<Vec<PlacedWord>, SetFault>
+    requires name { blank.name ≡ L.name }
+    requires parts { blank.parts ≡ L.parts }
+    requires one { blank.parts ≡ 1 }
+    requires index { IsIndexOf (set_of set.now) indexed.now }
+    requires image { image < length set.now.images.now }
+    ensures found { IfOk result (λ v. v.items ≡ spec.bound_words (set_of set.now) image) }
+    ensures cause { RefusesSet (option_map (in_image image) (rules.symbol_break (set_of set.now) image)) result }
+{
+    let streams = &set.streams[image as usize];
+    let mut steps = Steps::<L>::new(blank);
+    match place_binds(alloc, set.links, indexed, image, &streams.binds, &mut steps) {
+        Ok(words) => Ok(words),
+        Err(fault) => Err(fault.in_image(image)),
+    }
 }

@@ -42,7 +42,7 @@ fn place_bind<L: Ledger>(
 }
 
 // The bound words, or the first bind that breaks a rule.
-fn place_binds<L: Ledger>(
+pub(crate) fn place_binds<L: Ledger>(
     alloc: Global,
     links: &Links,
     indexed: &Indexed,

@@ -1,7 +1,7 @@
 // The streams of an image read.
-ghost use Rattle.std.specs.Prelude.{◌≡◌, ◌++◌, ◌∷◌, [], None, map, option_copied, IfOk};
+ghost use Rattle.std.specs.Prelude.{◌≡◌, ◌<◌, ◌^◌, ◌++◌, ◌∷◌, [], None, All, length, map, option_copied, IfOk, OnOk};
 ghost use Rattle.std.specs.List.Sorted.{IsNonDecreasingBy};
-ghost use Rattle.dsc_base.specs.Refusals.{first_break, Refuses};
+ghost use Rattle.dsc_base.specs.Refusals.{first_break, in_each, Refuses, RefusesSet};
 ghost use Rattle.macho_image.specs.Order.{addresses_of};
 ghost use Rattle.bind_ops.specs.Binds.{binds_of, bind_break, places_of};
 ghost use Rattle.bind_ops.specs.declared.kind.StreamKind.TheVariants as kinds;
@@ -15,7 +15,7 @@ ghost use Rattle.prebind.specs.Sets as spec;
 
 use crate::ImageStreams;
 use bind_ops::{Bind, StreamKind, check_weak, read_binds, words_clash};
-use dsc_base::{Fault, NoMemory};
+use dsc_base::{Fault, NoMemory, SetFault};
 use export_trie::{Export, read_trie};
 use macho_image::{Image, Location};
 use rebase_ops::read_rebases;
@@ -85,4 +85,26 @@ pub fn read_streams<'a>(
         exports: image.streams.exports,
     };
     Ok((streams, exports))
+}
+
+/// What the streams of each image spell, in the order of the images.
+///
+/// Refuses what `read_streams` refuses of the first image that it refuses. `Memory` says that memory ran out.
+pub fn read_all_streams<'a>(
+    alloc: Global,
+    images: &[Image<'a>],
+) -> Result<Vec<ImageStreams<'a>>, SetFault>
+    requires few { length images.now < 2 ^ 32 }
+    ensures lists { IfOk result (λ v. v.items ≡ map spec.lists_of images.now) }
+    ensures unbroken { OnOk result (All (λ i. spec.streams_break i ≡ None) images.now) }
+    ensures cause { RefusesSet (in_each spec.streams_break 0 images.now) result }
+{
+    let mut streams = Vec::with_capacity(alloc, images.len())?;
+    for (number, image) in images.iter().enumerate() {
+        match read_streams(alloc, image) {
+            Ok((read, _)) => streams.push(read)?,
+            Err(fault) => return Err(fault.in_image(number as u32)),
+        }
+    }
+    Ok(streams)
 }

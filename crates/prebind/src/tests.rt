@@ -1,6 +1,6 @@
 // Sets of small dylibs: where their words lead, and sets that break each of rules 131 to 137, by the files and
 // by an index of the set.
-ghost use Rattle.std.specs.Prelude.{◌≡◌, ◌<◌, None, length, map, All, IfOk, OnOk};
+ghost use Rattle.std.specs.Prelude.{◌≡◌, ◌≤◌, ◌<◌, None, length, map, All};
 ghost use Rattle.prebind.specs.Sets.{lists_of, streams_break, IsSoundSet};
 ghost use Rattle.prebind.specs.Steps.{set_of};
 
@@ -11,13 +11,13 @@ mod streams;
 
 use crate::{
     ImageStreams, PlacedWord, Set, WordTarget, body_segments, check_exports, index_set,
-    place_words, place_words_indexed, read_streams,
+    place_words, place_words_indexed, read_all_streams, read_streams,
 };
 use dep_closure::link_set;
 use dsc_base::{Fault, SetFault};
 use dylibs::{Dylib, file_of};
 use export_trie::Steps;
-use macho_image::{Form, Image, read_image};
+use macho_image::{Form, Image, read_image, read_images};
 use rows::{BINDS, EXPORTS, Led, POINTERS, REEXPORTS, Row};
 use std::alloc::Global;
 use std::marker::Brand;
@@ -33,39 +33,6 @@ fn files_of(alloc: Global, dylibs: &[Dylib]) -> Result<Vec<Vec<u8>>, Fail> {
         files.push(file_of(alloc, dylib)?)?;
     }
     Ok(files)
-}
-
-fn images_of<'a>(alloc: Global, files: &'a [Vec<u8>]) -> Result<Vec<Image<'a>>, Fail> {
-    let mut images = Vec::new(alloc);
-    for file in files {
-        let image = read_image(alloc, file, 0, Form::Standalone)
-            .ok()
-            .ok_or("the dylib is read")?;
-        images.push(image)?;
-    }
-    Ok(images)
-}
-
-fn streams_in<'a>(alloc: Global, image: &Image<'a>) -> Result<ImageStreams<'a>, Fail>
-    ensures lists { IfOk result (λ s. s ≡ lists_of image.now) }
-    ensures unbroken { OnOk result (streams_break image.now ≡ None) }
-{
-    match read_streams(alloc, image) {
-        Ok((streams, _)) => Ok(streams),
-        Err(_) => Err("the streams are read")?,
-    }
-}
-
-fn streams_of<'a>(alloc: Global, images: &[Image<'a>]) -> Result<Vec<ImageStreams<'a>>, Fail>
-    ensures lists { IfOk result (λ v. v.items ≡ map lists_of images.now) }
-    ensures unbroken { OnOk result (All (λ i. streams_break i ≡ None) images.now) }
-{
-    let mut streams = Vec::new(alloc);
-    for image in images {
-        let read = streams_in(alloc, image)?;
-        streams.push(read)?;
-    }
-    Ok(streams)
 }
 
 // The words of the first image, found by an index of the set.
@@ -120,27 +87,48 @@ fn first_words<L: Ledger>(
     }
 }
 
+// The words of the first image of a set that is read.
+fn first_of<L: Ledger>(
+    alloc: Global,
+    images: &[Image<'_>],
+    streams: &[ImageStreams<'_>],
+    way: Way,
+    steps: &mut Steps<L>,
+) -> Result<Result<Vec<PlacedWord>, SetFault>, Fail>
+    requires some { 0 < length images.now }
+    requires few { length images.now ≤ 4097 }
+    requires lists { streams.now ≡ map lists_of images.now }
+    requires unbroken { All (λ i. streams_break i ≡ None) images.now }
+{
+    match link_set(alloc, images) {
+        Ok(links) => {
+            let set = Set {
+                images,
+                streams,
+                links: &links,
+            };
+            Ok(first_words(alloc, &set, way, steps))
+        }
+        Err(_) => Err("the set is linked")?,
+    }
+}
+
 fn words_of<L: Ledger>(
     alloc: Global,
     files: &[Vec<u8>],
     way: Way,
     steps: &mut Steps<L>,
 ) -> Result<Result<Vec<PlacedWord>, SetFault>, Fail> {
-    let images = images_of(alloc, files)?;
-    let streams = streams_of(alloc, &images)?;
+    if files.len() > 4096 {
+        return Err("few files")?;
+    }
+    let images = read_images(alloc, files).ok().ok_or("the dylibs are read")?;
     if images.is_empty() || images.len() > 4097 {
         return Err("few images")?;
     }
-    match link_set(alloc, &images) {
-        Ok(links) => {
-            let set = Set {
-                images: &images,
-                streams: &streams,
-                links: &links,
-            };
-            Ok(first_words(alloc, &set, way, steps))
-        }
-        Err(_) => Err("the set is linked")?,
+    match read_all_streams(alloc, &images) {
+        Ok(streams) => first_of(alloc, &images, &streams, way, steps),
+        Err(_) => Err("the streams are read")?,
     }
 }
 

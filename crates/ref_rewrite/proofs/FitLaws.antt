@@ -47,9 +47,11 @@ use Rattle.cache_layout.proofs.SpaceLaws.{sound_space}
 use Rattle.cache_layout.proofs.SpanLaws.{place-starts, place-in_image}
 use Rattle.ref_rewrite.specs.Moving.{move_or_none, header_move, new_offset, edit_of}
 use Rattle.ref_rewrite.specs.Plans.{Part, Plan, Follows, IsInside, IsOwn, IsSoundPlan, Fit}
-use Rattle.ref_rewrite.specs.Planned.{AreSplitRead, IsLayout, AreAllPlaced, is_copied, copy_of, copies_of, words_with, span_in, plan_of, plan_in, plans_of, AreSized, with_header, with_headers}
+use Rattle.ref_rewrite.specs.Planned.{AreSplitRead, IsLayout, is_copied, copy_of, copies_of, words_with, span_in, plan_of, plan_in, plans_of, AreSized, with_header, with_headers}
 use Rattle.ref_rewrite.proofs.HomeLaws.{bytes_fit, header_fits, two_segments, section_owned}
 use Rattle.ref_rewrite.proofs.PlacedLaws.{placed_words}
+use Rattle.prebind.specs.Placed.{AreListsPlaced}
+use Rattle.prebind.proofs.PlacedLists.{placed_at}
 
 -- ---- where segments stand
 
@@ -245,7 +247,7 @@ pub record IsPlanned (set : ImageSet) (placed : List (List PlacedWord)) (headers
   pub sound : IsSoundSet set
   pub read : AreSplitRead set
   pub none : layout_break set.images ≡ None
-  pub placed_all : AreAllPlaced set placed
+  pub placed_all : AreListsPlaced set placed
   pub images : (k : ℕ) (i : Img) → k < length set.images → i ≡ get_or set.images k i → IsSound i
   pub sized : AreSized headers set.images
   pub values : (k : ℕ) (i : Img) → k < length set.images → i ≡ get_or set.images k i → AllFit (plan_in (layout_of set.images) set placed k i).edits
@@ -262,7 +264,7 @@ each_sound set placed headers given k i lt at =
     let s : StreamLists = get_or set.streams k none in
     let streams : slice_get set.streams k ≡ Some s = slice_get-get_or set.streams k none long in
     let same : streams_at set k ≡ s = ap streams_in streams in
-    let words = placed_words set k i s (slice_index_or placed k []) (given.sound.streams k i s image streams) streams (given.placed_all.each k lt) in
+    let words = placed_words set k i s (slice_index_or placed k []) (given.sound.streams k i s image streams) streams (placed_at set placed given.placed_all k lt) in
     sound_plan is k i (streams_at set k) (slice_index_or placed k []) headers (record { none = given.none; lt = lt; at = at; sound = given.images k i lt at })
     (subst (λ (t : StreamLists). IsSplitRead i t) (sym same) (given.read k i s image streams)) words (given.sized k i image) (given.values k i lt at)
 
@@ -311,7 +313,7 @@ plans_fit set placed headers given =
     }
 
 -- plans that were made, with values that fit
-pub made_planned : (l : Laid) (set : ImageSet) (placed : List (List PlacedWord)) (plans : List Plan) (headers : List (List ℕ)) → IsSoundSet set → AreSplitRead set → IsLayout l set.images → AreAllPlaced set placed → All IsSound set.images
+pub made_planned : (l : Laid) (set : ImageSet) (placed : List (List PlacedWord)) (plans : List Plan) (headers : List (List ℕ)) → IsSoundSet set → AreSplitRead set → IsLayout l set.images → AreListsPlaced set placed → All IsSound set.images
     → plans ≡ plans_of l set placed → All (λ (p : Plan). AllFit p.edits) plans → AreSized headers set.images → IsPlanned set placed headers
 unfolding plans_of
 made_planned l set placed plans headers sound read layout placed_all images made fits sized =

@@ -33,6 +33,7 @@ use Rattle.ref_rewrite.proofs.PageLaws.{slice_there, same_mapping}
 use Rattle.ref_rewrite.proofs.PlacedLaws.{placed_words}
 use Rattle.ref_rewrite.proofs.SpacedLaws.{words_spaced}
 use Rattle.ref_rewrite.proofs.MappingLaws.{IsNext, next_of, plans_from}
+use Rattle.prebind.proofs.PlacedLists.{placed_at}
 
 -- ---- words that follow one another
 
@@ -230,8 +231,8 @@ images_follow set placed headers before (i ∷ rest) given all =
     let streams : slice_get set.streams k ≡ Some s = slice_get-get_or set.streams k none long in
     let sound = given.sound.streams k i s image streams in
     let ws : List PlacedWord = slice_index_or placed k [] in
-    let words : All (λ (w : PlacedWord). IsWord i w.at) ws = placed_words set k i s ws sound streams (given.placed_all.each k at.lt) in
-    let spaced : SpacedFrom 0 ws = spaced_from 0 ws (words_spaced set k i s ws sound streams (given.placed_all.each k at.lt)) (λ d some. omega arith) in
+    let words : All (λ (w : PlacedWord). IsWord i w.at) ws = placed_words set k i s ws sound streams (placed_at set placed given.placed_all k at.lt) in
+    let spaced : SpacedFrom 0 ws = spaced_from 0 ws (words_spaced set k i s ws sound streams (placed_at set placed given.placed_all k at.lt)) (λ d some. omega arith) in
     let range : l.writable.at ≡ mapping_start Writable is = ap (λ (r : Span). r.at) (range_in-is is Writable) in
     let begin : ℕ = image_start is before Writable - mapping_start Writable is in
     let after : List Img = before ++ i ∷ [] in

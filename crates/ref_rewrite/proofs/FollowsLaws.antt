@@ -1,5 +1,5 @@
 -- Laws of spans that follow one another: where each begins, and runs of them that are cut or joined.
-use Rattle.std.proofs.Common.{◌≡◌, ◌≤◌, ◌<◌, ℕ, zero, suc, ◌+◌, List, [], ◌∷◌, ◌++◌, take, drop, length, get_or, sum_by, subst, ◌∙◌, arith}
+use Rattle.std.proofs.Common.{◌≡◌, ◌≤◌, ◌<◌, ℕ, zero, suc, ◌+◌, List, [], ◌∷◌, take, drop, length, get_or, sum_by, subst, ◌∙◌, arith}
 use Rattle.std.proofs.lemmas.List.Sums.{sum_by-cons}
 use Rattle.dsc_base.specs.declared.fault.Span.{Span}
 use Rattle.ref_rewrite.specs.Plans.{Plan, Follows}
@@ -54,8 +54,3 @@ Follows-within span ps n from end follows =
     let rest : end ≡ from + span_lens span (take n ps) + span_lens span (drop n ps) =
     Follows-end span (from + span_lens span (take n ps)) end (drop n ps) (Follows-back span from end ps n follows) in
     omega (arith, rest)
-
--- more spans behind those that there are
-pub Follows-append : (span : Plan → Span) (from mid end : ℕ) (ps qs : List Plan) → Follows span from mid ps → Follows span mid end qs → Follows span from end (ps ++ qs)
-Follows-append span from mid end [] qs front back = subst (λ (m : ℕ). Follows span m end qs) (omega (arith, front)) back
-Follows-append span from mid end (p ∷ ps) qs front back = (front.0, Follows-append span (from + (span p).len) mid end ps qs front.1 back)

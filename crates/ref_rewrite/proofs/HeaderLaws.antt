@@ -2,24 +2,21 @@
 use Rattle.std.proofs.Common.{◌≡◌, ◌≤◌, ◌<◌, ◌⊎◌, ℕ, zero, suc, ◌+◌, ◌-◌, true, not, List, [], ◌∷◌, length, map, filter, get_or, refl, sym, ap, ◌∙◌, subst, arith, inl, inr, Option, Some, None}
 use Rattle.std.specs.Prelude.{find, slice_get, slice_index_or}
 use Rattle.std.specs.List.{All}
-use Rattle.std.proofs.lemmas.Bool.{cond-true, cases_lt}
+use Rattle.std.proofs.lemmas.Bool.{cond-true, cases_lt, and_parts, not-false}
 use Rattle.std.proofs.lemmas.Bool.Decides.{nat_tests}
 use Rattle.std.proofs.lemmas.List.Elements.{All-append, All-map, All-filter}
 use Rattle.std.proofs.lemmas.Option.{same_Some, slice_get_read, slice_get-get_or, slice_get_within, get_or_from_slice_get}
 use Rattle.dsc_base.specs.declared.edits.Edit.{Edit}
-use Rattle.dsc_base.specs.declared.fault.Site.{Site}
-use Rattle.dsc_base.specs.declared.rule.Rule.TheVariants.{SegmentShape, SegmentProt, SectionShape, Interposing, HasRelocations}
-use Rattle.dsc_base.specs.Refusals.{broken, first_break}
 use Rattle.macho_image.specs.Records.{Img, Seg, SegmentLoad, SectionLoad}
 use Rattle.macho_image.specs.declared.place.Location.{Location}
 use Rattle.macho_image.specs.declared.section.Section.{Section}
 use Rattle.macho_image.specs.Macho.{header_size, loads_of, segment_loads, section_of, sections_from}
 use Rattle.macho_image.specs.Places.{IsWord}
-use Rattle.macho_image.specs.Rules.{first_segment, is_text, sections_stand, sections_start, first_crowded, breaks_segment_shape, breaks_segment_prot, breaks_section_shape, breaks_interposing, breaks_has_relocations}
-use Rattle.macho_image.specs.Breaks.{kind_break, command_break, header_break, section_break, name_break, form_of, IsSound}
+use Rattle.macho_image.specs.Rules.{first_segment, is_text, sections_stand, sections_start, first_crowded}
+use Rattle.macho_image.specs.Breaks.{IsSound}
 use Rattle.macho_image.proofs.HeaderLaws.{text_position}
-use Rattle.macho_image.proofs.Unbroken.{or_none, broken_none, least_none_both}
-use Rattle.cache_layout.proofs.SoundLaws.{sound_rules, shape_parts, both, load-of, segment_none, sound_linkedit}
+use Rattle.macho_image.proofs.Unbroken.{least_none_both, find_none}
+use Rattle.cache_layout.proofs.SoundLaws.{load-of, sound_linkedit}
 use Rattle.cache_layout.proofs.PlaceLaws.{are_apart}
 use Rattle.cache_layout.proofs.RoomLaws.{paged-covers}
 use Rattle.cache_layout.specs.Apart.{IsSegment, move_at}
@@ -27,15 +24,16 @@ use Rattle.cache_layout.specs.Layouts.{Laid, layout_of}
 use Rattle.split_info.specs.declared.reference.Reference.{Reference}
 use Rattle.split_info.specs.References.{width_of}
 use Rattle.split_info.specs.Split.{IsReference}
-use Rattle.split_info.proofs.SoundSections.{section_shape}
 use Rattle.prebind.specs.declared.resolved.PlacedWord.{PlacedWord}
 use Rattle.prebind.specs.Sets.{StreamLists, ImageSet, IsSplitRead}
 use Rattle.prebind.specs.Words.{Word, pointer_word, reference_word, is_no_pointer, streams_in, streams_at}
 use Rattle.ref_rewrite.specs.Moving.{move_or_none, header_move, new_offset, edit_of}
 use Rattle.ref_rewrite.specs.Planned.{words_with, plan_of}
 use Rattle.ref_rewrite.proofs.FitLaws.{IsAt, IsPlanned, headed, segment_there, offset_is, references_are}
-use Rattle.ref_rewrite.proofs.HomeLaws.{good_first, not_false, one_of_two, section_owned, two_segments, header_fits, bytes_fit}
+use Rattle.ref_rewrite.proofs.HomeLaws.{good_first, one_of_two, section_owned, two_segments, header_fits, bytes_fit}
 use Rattle.ref_rewrite.proofs.PlacedLaws.{placed_words}
+use Rattle.macho_image.proofs.HeaderRules.{sound_rules, shape_parts}
+use Rattle.prebind.proofs.PlacedLists.{placed_at}
 
 -- a section of a command begins no earlier than its sections may
 stand_above : (size k floor j : ℕ) (l : SegmentLoad) (u : Section) (xs : List SectionLoad) → sections_stand l (sections_start size l) floor xs ≡ true → slice_get (map (section_of k) xs) j ≡ Some u → (sections_start size l ≤ u.addr) × (u.segment ≡ k)
@@ -59,10 +57,10 @@ record IsAbove (size k : ℕ) (ls : List SegmentLoad) (u : Section) : Type 0 whe
 is_above : (size k : ℕ) (ls : List SegmentLoad) (j : ℕ) (u : Section) → first_segment (λ l. not (sections_stand l (sections_start size l) 0 l.sections)) ls ≡ None → slice_get (sections_from k ls) j ≡ Some u → IsAbove size k ls u
 is_above size k [] j u none got = absurd (cc)
 is_above size k (l ∷ ls) j u none got =
-    let parts = segment_none (not (sections_stand l (sections_start size l) 0 l.sections)) l (find (λ (t : SegmentLoad). not (sections_stand t (sections_start size t) 0 t.sections)) ls) none in
+    let parts = find_none (not (sections_stand l (sections_start size l) 0 l.sections)) l (find (λ (t : SegmentLoad). not (sections_stand t (sections_start size t) 0 t.sections)) ls) none in
     elim (one_of_two (map (section_of k) l.sections) (sections_from (k + 1) ls) j u got) [
       | inl here ↦
-          let own = stand_above size k 0 j l u l.sections (not_false (sections_stand l (sections_start size l) 0 l.sections) parts.0) here in
+          let own = stand_above size k 0 j l u l.sections (not-false (sections_stand l (sections_start size l) 0 l.sections) parts.0) here in
           record { load = l; index = 0; found = refl; number = omega (arith, own.1); above = own.0 }
       | inr later ↦
           let rest : IsAbove size (k + 1) ls u = is_above size (k + 1) ls later.0 u parts.1 later.1 in
@@ -74,7 +72,7 @@ pub section_behind : (image : Img) → IsSound image → (j : ℕ) (u : Section)
 section_behind image sound j u s got first home =
     let ls : List SegmentLoad = segment_loads (loads_of image.header) in
     let size : ℕ = header_size image.header in
-    let stand = (least_none_both (first_segment (λ l. not (sections_stand l (sections_start size l) 0 l.sections)) ls) (first_crowded 0 ls) (section_shape image sound)).0 in
+    let stand = (least_none_both (first_segment (λ l. not (sections_stand l (sections_start size l) 0 l.sections)) ls) (first_crowded 0 ls) (sound_rules image sound).sections).0 in
     let from : IsAbove size 0 ls u = is_above size 0 ls j u stand (ap (λ (xs : List Section). slice_get xs j) (sym sound.sections) ∙ got) in
     let some : 0 < length image.segments = slice_get_within image.segments 0 s home in
     let at : s ≡ get_or image.segments 0 s = sym (get_or_from_slice_get image.segments 0 s s home) in
@@ -82,7 +80,7 @@ section_behind image sound j u s got first home =
     let index : from.index ≡ 0 = omega (arith, from.number, first) in
     let found : slice_get ls 0 ≡ Some command.0 = slice_get_read ls (length ls) 0 command.0 refl command.1 command.2 in
     let same : from.load ≡ command.0 = same_Some from.load command.0 (sym (ap (λ (n : ℕ). slice_get ls n) (sym index) ∙ from.found) ∙ found) in
-    let good = both (is_text command.0) _ (good_first size ls command.0 (shape_parts size ls (sound_rules image sound).shape).3 command.1 command.2) in
+    let good = and_parts (is_text command.0) _ (good_first size ls command.0 (shape_parts size ls (sound_rules image sound).segments).3 command.1 command.2) in
     let start : sections_start size from.load ≡ command.0.vmaddr + size = ap (sections_start size) same ∙ cond-true (is_text command.0) (command.0.vmaddr + size) command.0.vmaddr good.0 in
     omega (arith, from.above, start, ap (λ (t : Seg). t.vmaddr) command.3, sound.whole)
 
@@ -155,7 +153,7 @@ header_clear set placed headers given k i lt at =
     let streams : slice_get set.streams k ≡ Some s = slice_get-get_or set.streams k none long in
     let same : streams_at set k ≡ s = ap streams_in streams in
     let ws : List PlacedWord = slice_index_or placed k [] in
-    let words = placed_words set k i s ws (given.sound.streams k i s image streams) streams (given.placed_all.each k lt) in
+    let words = placed_words set k i s ws (given.sound.streams k i s image streams) streams (placed_at set placed given.placed_all k lt) in
     let there : IsAt is k i = record { none = given.none; lt = lt; at = at; sound = given.images k i lt at } in
     let read = subst (λ (t : StreamLists). IsSplitRead i t) (sym same) (given.read k i s image streams) in
     let all = words_clear is k i (streams_at set k) ws there read words in

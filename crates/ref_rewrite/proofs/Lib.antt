@@ -7,7 +7,6 @@ pub mod FollowingLaws
 pub mod FollowsLaws
 pub mod HeaderLaws
 pub mod HomeLaws
-pub mod JoinedLaws
 pub mod LeadLaws
 pub mod MappingLaws
 pub mod OrderLaws

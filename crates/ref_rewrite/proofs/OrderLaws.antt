@@ -13,7 +13,8 @@ use Rattle.prebind.specs.Words.{ArePlaced, put_word, in_word_order, all_pointers
 use Rattle.prebind.proofs.DistinctLaws.{words_rise}
 use Rattle.cache_layout.specs.Places.{numbered}
 use Rattle.cache_layout.proofs.NumberedLaws.{numbered-get, length-numbered}
-use Rattle.ref_rewrite.specs.Planned.{AreAllPlaced}
+use Rattle.prebind.specs.Placed.{AreListsPlaced}
+use Rattle.prebind.proofs.PlacedLists.{lists_placed}
 
 -- ---- words that are put in order are the same words
 
@@ -89,11 +90,8 @@ all_ordered set = numbered (λ (k : ℕ) (image : Img). ordered_pointers set k) 
 pub ordered_at : (set : ImageSet) (k : ℕ) (image : Img) → k < length set.images → image ≡ get_or set.images k image → slice_index_or (all_ordered set) k [] ≡ ordered_pointers set k
 ordered_at set k image lt at = numbered-get (λ (n : ℕ) (i : Img). ordered_pointers set n) set.images k image [] lt at
 
-pub all_placed : (set : ImageSet) → IsSoundSet set → AreAllPlaced set (all_ordered set)
-all_placed set sound = record {
-  many = length-numbered (λ (n : ℕ) (i : Img). ordered_pointers set n) set.images;
-  each = λ k lt. each_placed k lt;
-}
+pub all_placed : (set : ImageSet) → IsSoundSet set → AreListsPlaced set (all_ordered set)
+all_placed set sound = lists_placed set (all_ordered set) (length-numbered (λ (n : ℕ) (i : Img). ordered_pointers set n) set.images) each_placed
   where
     each_placed : (k : ℕ) → k < length set.images → ArePlaced (pointers_of set k) (slice_index_or (all_ordered set) k [])
     each_placed k lt =

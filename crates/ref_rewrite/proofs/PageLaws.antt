@@ -120,7 +120,7 @@ self_same Text = refl
 self_same Writable = refl
 self_same Fixed = refl
 
-padded_long : (size : ℕ) (bytes : List ℕ) → length bytes ≤ size → length (padded size bytes) ≡ size
+pub padded_long : (size : ℕ) (bytes : List ℕ) → length bytes ≤ size → length (padded size bytes) ≡ size
 padded_long size bytes le = length-append bytes (replicate (size - length bytes) 0) ∙ omega (arith, le, length-replicate {A = ℕ} (size - length bytes) 0)
 
 pub lies_yes : (s : Span) (at n : ℕ) → s.at ≤ at → at + n ≤ s.at + s.len → lies_in s at n ≡ true

@@ -62,10 +62,6 @@ unfolding new_number
 edits_anywhere l k xs ss [] = refl
 edits_anywhere l k xs ss (r ∷ rs) = ap (λ (es : List Edit). edit_of l k ss (reference_word k [] ss r) ∷ es) (edits_anywhere l k xs ss rs)
 
-pub break_anywhere : (l : Laid) (k : ℕ) (xs : List Section) (ss : List Seg) (rs : List Reference) → references_break l k xs ss rs ≡ references_break l k [] ss rs
-unfolding can_lead
-break_anywhere l k xs ss rs = refl
-
 -- ---- none without bytes
 
 and_last : (a b : Bool) → (a && b) ≡ true → b ≡ true

@@ -5,10 +5,8 @@ use Rattle.std.proofs.Math.ListN.{get_or-append}
 use Rattle.std.proofs.lemmas.Bool.{and_from, le-leb}
 use Rattle.dsc_base.specs.declared.edits.Edit.{Edit}
 use Rattle.dsc_base.specs.declared.fault.Span.{Span}
-use Rattle.dsc_base.specs.Numbers.{number_at}
 use Rattle.dsc_base.specs.Edits.{AllInside, AllFit, ApartFrom, AllApart, IsAmong}
-use Rattle.dsc_base.proofs.EditLaws.{length-put_all, get_or-put_all_apart, number_at-put_all, ApartFrom-part}
-use Rattle.dsc_base.proofs.NumberLaws.{number_at-same}
+use Rattle.dsc_base.proofs.EditLaws.{length-put_all, get_or-put_all_apart}
 use Rattle.ref_rewrite.specs.Plans.{Part, Plan, header_of, IsInside}
 use Rattle.ref_rewrite.specs.Rewritten.{lies_in, edits_in, parts_in, put_bytes, put_parts, rewritten}
 use Rattle.ref_rewrite.proofs.SpanLaws.{inside, put_parts_in-append, part_within}
@@ -188,17 +186,6 @@ get_or-zeros zero i = refl
 get_or-zeros (suc n) zero = refl
 get_or-zeros (suc n) (suc i) = get_or-zeros n i
 
--- a byte in no copy, nor in the header or an edit, is 0
-pub byte_blank : (p : Plan) (s : Span) (at : ℕ) → s.at ≤ at → ClearOf at 1 p.copies → ClearOf at 1 (header_of p ∷ []) → ApartFrom at 1 p.edits → get_or (rewritten p s) (at - s.at) 0 ≡ 0
-unfolding laid
-byte_blank p s at le copies header apart =
-    let zeros : length (replicate s.len 0) ≡ s.len = length-replicate {A = ℕ} s.len 0 in
-    byte_laid p s at le apart
-    ∙ (put_parts-clear (parts_in s (p.copies ++ header_of p ∷ [])) (replicate s.len 0) (at - s.at)
-    (subst (λ (n : ℕ). AreInside n (parts_in s (p.copies ++ header_of p ∷ []))) (sym zeros) (parts_inside s (p.copies ++ header_of p ∷ [])))
-    (parts_clear s (p.copies ++ header_of p ∷ []) at 1 le (ClearOf-append at 1 p.copies (header_of p ∷ []) copies header))
-    ∙ get_or-zeros s.len (at - s.at))
-
 -- a byte of a part and of none behind it
 part_byte : (s : Span) (front : List Part) (c : Part) (back : List Part) (b : List ℕ) (at : ℕ) → length b ≡ s.len → IsInside s c.at (length c.bytes) → c.at ≤ at → at < c.at + length c.bytes → ClearOf at 1 back → get_or (put_parts (parts_in s (front ++ c ∷ back)) b) (at - s.at) 0 ≡ get_or c.bytes (at - c.at) 0
 part_byte s front c back b at len within le lt clear =
@@ -235,31 +222,8 @@ byte_of_header p s at within le lt apart =
     byte_laid p s at (omega (arith, within.0)) apart
     ∙ part_byte s p.copies (header_of p) [] (replicate s.len 0) at zeros within le lt tt
 
--- an edit that lies in the span is read back, where the edits keep apart
-pub number_edited : (p : Plan) (s : Span) (e : Edit) → IsAmong e p.edits → AllApart p.edits → AllFit p.edits → IsInside s e.at e.width → number_at e.width (rewritten p s) (e.at - s.at) ≡ e.value
-unfolding rewritten laid
-number_edited p s e among apart fit within =
-    number_at-put_all (record { at = e.at - s.at; width = e.width; value = e.value }) (edits_in s p.edits) (laid p s) (laid_edits p s) (edits_apart s p.edits apart) (edits_fit s p.edits fit) (among_in s e p.edits within among)
-
 -- what keeps clear of the whole keeps clear of a part
 pub ClearOf-part : (at w i u : ℕ) (cs : List Part) → at ≤ i → i + u ≤ at + w → ClearOf at w cs → ClearOf i u cs
 ClearOf-part at w i u [] le within clear = tt
 ClearOf-part at w i u (c ∷ cs) le within (inl before, rest) = (inl (omega arith), ClearOf-part at w i u cs le within rest)
 ClearOf-part at w i u (c ∷ cs) le within (inr behind, rest) = (inr (omega arith), ClearOf-part at w i u cs le within rest)
-
--- a number in a copy, apart from all that is written over the copy, is the copy's
-pub number_copied : (p : Plan) (s : Span) (front : List Part) (c : Part) (back : List Part) (at w : ℕ) → p.copies ≡ front ++ c ∷ back → IsInside s c.at (length c.bytes) → c.at ≤ at → at + w ≤ c.at + length c.bytes → ClearOf at w back → ClearOf at w (header_of p ∷ []) → ApartFrom at w p.edits → number_at w (rewritten p s) (at - s.at) ≡ number_at w c.bytes (at - c.at)
-number_copied p s front c back at w is within le fits behind header apart =
-    number_at-same w (rewritten p s) c.bytes (at - s.at) (at - c.at)
-    (λ k lt. ap (λ (m : ℕ). get_or (rewritten p s) m 0) (omega (arith, within.0))
-    ∙ (byte_copied p s front c back (at + k) is within (omega arith) (omega arith) (ClearOf-part at w (at + k) 1 back (omega arith) (omega arith) behind)
-    (ClearOf-part at w (at + k) 1 (header_of p ∷ []) (omega arith) (omega arith) header) (ApartFrom-part at w (at + k) 1 p.edits (omega arith) (omega arith) apart)
-    ∙ ap (λ (m : ℕ). get_or c.bytes m 0) (omega arith)))
-
--- a number in the header, apart from the edits, is the header's
-pub number_of_header : (p : Plan) (s : Span) (at w : ℕ) → IsInside s p.header_at (length p.header) → p.header_at ≤ at → at + w ≤ p.header_at + length p.header → ApartFrom at w p.edits → number_at w (rewritten p s) (at - s.at) ≡ number_at w p.header (at - p.header_at)
-number_of_header p s at w within le fits apart =
-    number_at-same w (rewritten p s) p.header (at - s.at) (at - p.header_at)
-    (λ k lt. ap (λ (m : ℕ). get_or (rewritten p s) m 0) (omega (arith, within.0))
-    ∙ (byte_of_header p s (at + k) within (omega arith) (omega arith) (ApartFrom-part at w (at + k) 1 p.edits (omega arith) (omega arith) apart)
-    ∙ ap (λ (m : ℕ). get_or p.header m 0) (omega arith)))

@@ -6,7 +6,7 @@ use Rattle.std.proofs.Math.Seq.{take-append_seam, drop-append_seam}
 use Rattle.dsc_base.specs.declared.fault.Span.{Span}
 use Rattle.ref_rewrite.specs.Plans.{Plan, Follows}
 use Rattle.ref_rewrite.specs.Rewritten.{rewritten, joined}
-use Rattle.ref_rewrite.proofs.FollowsLaws.{span_lens, span_lens-cons, Follows-end, Follows-at, Follows-front, Follows-back, Follows-within}
+use Rattle.ref_rewrite.proofs.FollowsLaws.{span_lens, Follows-end, Follows-at, Follows-front, Follows-back, Follows-within}
 use Rattle.ref_rewrite.specs.Runs.{IsRun, IsBlankRun}
 
 -- a later span begins as far behind the first as those before it are long
@@ -60,14 +60,6 @@ pub only : (ps : List Plan) (x : Plan) → length ps ≡ 1 → x ≡ get_or ps 0
 only [] x one is = absurd (omega (arith, one))
 only (p ∷ []) x one is = ap (λ (q : Plan). q ∷ []) is
 only (p ∷ (q ∷ ps)) x one is = absurd (omega (arith, one))
-
--- the zeros of one image
-pub blank_one : (span : Plan → Span) (bytes : List ℕ) (ps : List Plan) (x : Plan) → IsBlankRun span bytes ps → length ps ≡ 1 → x ≡ get_or ps 0 x → bytes ≡ replicate (span x).len 0
-blank_one span bytes ps x blank one is =
-    let all : length bytes ≡ span_lens span ps = run_len span bytes ps blank in
-    let same : span_lens span ps ≡ span_lens span (x ∷ []) = ap (span_lens span) (sym (only ps x one is)) in
-    let sum : span_lens span (x ∷ []) ≡ (span x).len + 0 = span_lens-cons span x [] in
-    blank.zeros ∙ ap (λ (m : ℕ). replicate m 0) (omega (arith, all, same, sum))
 
 pub joined_halves : (span : Plan → Span) (ps : List Plan) (n : ℕ) → joined span (take n ps) ++ joined span (drop n ps) ≡ joined span ps
 unfolding joined

@@ -1,5 +1,5 @@
 -- What is planned for each image of a set, by a layout and by the words that are bound or rebased.
-use Rattle.std.specs.Prelude.{◌≡◌, ◌<◌, ℕ, ◌-◌, Bool, true, false, not, ◌&&◌, nat_eq, List, [], ◌++◌, length, map, filter, take, Some, None, slice_get, slice_index_or}
+use Rattle.std.specs.Prelude.{◌≡◌, ℕ, ◌-◌, Bool, true, false, not, ◌&&◌, nat_eq, List, [], ◌++◌, length, map, filter, take, Some, None, slice_get, slice_index_or}
 use Rattle.std.specs.List.{flat_map, enumerate_from}
 use Rattle.dsc_base.specs.declared.fault.Span.{Span}
 use Rattle.macho_image.specs.Records.{Seg, Img}
@@ -8,7 +8,7 @@ use Rattle.prebind.specs.declared.resolved.WordTarget.{WordTarget}
 use Rattle.prebind.specs.declared.resolved.WordTarget.TheVariants.{Place, Constant}
 use Rattle.prebind.specs.declared.resolved.PlacedWord.{PlacedWord}
 use Rattle.prebind.specs.Sets.{StreamLists, ImageSet, IsSplitRead}
-use Rattle.prebind.specs.Words.{Word, pointer_word, reference_word, is_no_pointer, streams_at, pointers_of, ArePlaced}
+use Rattle.prebind.specs.Words.{Word, pointer_word, reference_word, is_no_pointer, streams_at}
 use Rattle.cache_layout.specs.declared.mapping.Mapping.{Mapping}
 use Rattle.cache_layout.specs.declared.mapping.Mapping.TheVariants.{Text, Writable, Fixed}
 use Rattle.cache_layout.specs.Places.{segments_room, image_start, numbered}
@@ -27,11 +27,6 @@ AreSplitRead set = (k : ℕ) (image : Img) (s : StreamLists) → slice_get set.i
 pub record IsLayout (l : Laid) (images : List Img) : Type 0 where
   pub is : l ≡ layout_of images
   pub fits : layout_break images ≡ None
-
--- the pointers of each image, in address order
-pub record AreAllPlaced (set : ImageSet) (placed : List (List PlacedWord)) : Type 0 where
-  pub many : length placed ≡ length set.images
-  pub each : (k : ℕ) → k < length set.images → ArePlaced (pointers_of set k) (slice_index_or placed k [])
 
 -- ---- what is planned for one image
 

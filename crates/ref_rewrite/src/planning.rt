@@ -6,6 +6,7 @@ ghost use Rattle.dsc_base.specs.Refusals.{in_image, Refuses, RefusesSet};
 ghost use Rattle.prebind.specs.Words.{pointer_word, streams_at, pointers_of, ArePlaced};
 ghost use Rattle.dsc_base.specs.Edits.{AllFit, put_all};
 ghost use Rattle.macho_image.specs.Breaks.{IsSound};
+ghost use Rattle.prebind.specs.Placed.{AreListsPlaced};
 ghost use Rattle.prebind.specs.Sets.{IsSoundSet};
 ghost use Rattle.prebind.specs.Steps.{set_of};
 ghost use Rattle.cache_layout.specs.declared.mapping.Mapping.{Mapping};
@@ -154,7 +155,7 @@ pub fn plan<'a>(
     requires sound { IsSoundSet (set_of set.now) }
     requires read { spec.AreSplitRead (set_of set.now) }
     requires layout { spec.IsLayout layout.now set.now.images.now }
-    requires placed { spec.AreAllPlaced (set_of set.now) (map (λ v. v.items) placed.now) }
+    requires placed { AreListsPlaced (set_of set.now) (map (λ v. v.items) placed.now) }
     ensures plans { IfOk result (λ v. v.items ≡ spec.plans_of layout.now (set_of set.now) (map (λ v. v.items) placed.now)) }
     ensures words { IfOk result (λ v. FollowIn 0 layout.now.writable.len (flat_map (λ p. p.words) v.items)) }
     ensures fit { IfOk result (λ v. (headers : List (List ℕ)) → spec.AreSized headers set.now.images.now → Fit layout.now.text.len layout.now.writable.len layout.now.fixed.len (spec.with_headers headers v.items)) }

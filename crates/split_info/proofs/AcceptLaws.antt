@@ -1,9 +1,9 @@
 -- What is true of the references that are accepted.
-use Rattle.std.proofs.Common.{◌≡◌, ◌≤◌, ◌<◌, ◌+◌, ◌-◌, ℕ, zero, suc, Bool, true, false, not, ◌&&◌, ◌||◌, cond, List, [], ◌∷◌, map, filter, length, get_or, refl, sym, ap, ◌∙◌, subst, arith, nat_eq, nat_le, nat_lt, if◌then◌else◌, inl, inr, Option, Some, None, true≢false}
+use Rattle.std.proofs.Common.{◌≡◌, ◌≤◌, ◌<◌, ◌+◌, ◌-◌, ℕ, zero, suc, Bool, true, false, not, ◌&&◌, cond, List, [], ◌∷◌, map, filter, length, get_or, refl, sym, ap, ◌∙◌, subst, arith, nat_eq, nat_le, nat_lt, if◌then◌else◌, inl, inr, Option, Some, None, true≢false}
 use Rattle.std.specs.Prelude.{option_map, slice_get, count_by, All, Result, Ok, Err}
 use Rattle.std.specs.List.{AllPairs, position}
-use Rattle.std.specs.Option.{option_or, option_and_then}
-use Rattle.std.proofs.lemmas.Bool.{cases_Bool}
+use Rattle.std.specs.Option.{option_and_then}
+use Rattle.std.proofs.lemmas.Bool.{cases_Bool, or_parts}
 use Rattle.std.proofs.lemmas.Bool.Decides.{nat_tests}
 use Rattle.std.proofs.lemmas.List.Elements.{All-nil, All-cons}
 use Rattle.dsc_base.specs.declared.fault.UlebFault.{UlebFault}
@@ -30,6 +30,7 @@ use Rattle.split_info.specs.Overlap.{is_pointer, meets, strays, overlaps, overla
 use Rattle.split_info.proofs.CountLaws.{two_counted}
 use Rattle.split_info.proofs.OverlapLaws.{from_of, lowest_of, meets_itself}
 use Rattle.split_info.proofs.SoundSections.{section_inside}
+use Rattle.macho_image.proofs.Unbroken.{or_none}
 
 -- ---- Where one reference stands and leads
 
@@ -226,10 +227,6 @@ all_spelled image (Some bytes) sound =
 
 -- ---- What the rules say of them
 
-neither : {X : Type 0} (a b : Option X) → option_or a b ≡ None → (a ≡ None) × (b ≡ None)
-neither None b none = (refl, none)
-neither (Some x) b none = absurd (cc)
-
 unmapped : (at : ℕ) (o : Option Rule) → option_map (site_at at) o ≡ None → o ≡ None
 unmapped at None none = refl
 unmapped at (Some rule) none = absurd (cc)
@@ -259,7 +256,7 @@ all_unbroken : (rebases : List Location) (before : ℕ) (s : Spelled) → readin
 all_unbroken rebases before End none le = (All-nil (IsRebased rebases), omega (arith, le))
 all_unbroken rebases before (Refused site) none le = absurd (cc)
 all_unbroken rebases before (Next at r more) none le =
-    let two = neither (option_map (site_at at) (reference_fault rebases before r)) (reading_break rebases (before + 1) more) none in
+    let two = or_none (option_map (site_at at) (reference_fault rebases before r)) (reading_break rebases (before + 1) more) none in
     let one = unbroken_one rebases before r (unmapped at (reference_fault rebases before r) two.0) in
     let few = one.few in
     let rest = all_unbroken rebases (before + 1) more two.1 (omega (arith, few)) in
@@ -278,17 +275,13 @@ none_overlaps p (r ∷ rs) none = elim (cases_Bool (p r)) [
       All-cons (λ (s : Reference). p s ≡ false) r rs other (none_overlaps p rs (sym (ap (λ (b : Bool). lowest (map from_of (cond b (r ∷ filter p rs) (filter p rs)))) other) ∙ none))
 ]
 
-or_false : (a b : Bool) → (a || b) ≡ false → (a ≡ false) × (b ≡ false)
-or_false true b is = absurd (true≢false is)
-or_false false b is = (refl, is)
-
 all_apart : (rebases bound : List Location) (rs : List Reference) → All (λ (r : Reference). overlaps rebases bound rs r ≡ false) rs → AllPairs (λ r s. meets r s ≡ false) rs
 all_apart rebases bound rs none i j d lt inside =
     let r = get_or rs i d in
     elim (cases_Bool (meets r (get_or rs j d))) [
       | inl met ↦
           let two : 2 ≤ count_by (meets r) rs = two_counted (meets r) rs i j d lt inside (meets_itself r) met in
-          let few : nat_lt 1 (count_by (meets r) rs) ≡ false = (or_false (nat_lt 1 (count_by (meets r) rs)) (strays rebases bound r) (none i d (omega arith))).0 in
+          let few : nat_lt 1 (count_by (meets r) rs) ≡ false = (or_parts (nat_lt 1 (count_by (meets r) rs)) (strays rebases bound r) (none i d (omega arith))).0 in
           let many : nat_lt 1 (count_by (meets r) rs) ≡ true = grind (arith, nat_tests) in
           absurd (true≢false (sym many ∙ few))
       | inr apart ↦ apart
@@ -307,7 +300,7 @@ accepted image stream rebases bound sound unbroken none =
       few = omega (arith, kept.1);
       all = λ k d lt. one (get_or (references s) k d) (placed k d lt) (kept.0 k d lt);
       apart = all_apart rebases bound (references s) clear;
-      off_words = λ k d lt. (or_false (nat_lt 1 (count_by (meets (get_or (references s) k d)) (references s))) (strays rebases bound (get_or (references s) k d)) (clear k d lt)).1;
+      off_words = λ k d lt. (or_parts (nat_lt 1 (count_by (meets (get_or (references s) k d)) (references s))) (strays rebases bound (get_or (references s) k d)) (clear k d lt)).1;
     }
   where
     one : (r : Reference) → IsPlaced image r → IsRebased rebases r → IsReference image rebases r

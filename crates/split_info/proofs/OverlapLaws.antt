@@ -2,7 +2,7 @@
 use Rattle.std.proofs.Common.{◌≡◌, ◌≤◌, ◌<◌, ◌+◌, ℕ, zero, suc, Bool, true, false, not, cond, ◌&&◌, ◌||◌, List, [], ◌∷◌, map, filter, length, get_or, refl, sym, ap, ap₂, ◌∙◌, subst, arith, nat_lt, min, Option, Some, None, inl, inr, true≢false}
 use Rattle.std.specs.Prelude.{count_by, slice_get, All, IsPermutation}
 use Rattle.std.specs.List.Sorted.{IsNonDecreasingBy}
-use Rattle.std.proofs.lemmas.Bool.{cases_lt, cases_Bool}
+use Rattle.std.proofs.lemmas.Bool.{cases_lt, cases_Bool, or_parts, or_right}
 use Rattle.std.proofs.lemmas.Bool.Decides.{nat_tests}
 use Rattle.std.proofs.lemmas.List.{get_or_read, get_or_default}
 use Rattle.std.proofs.lemmas.List.Elements.{All-tail, filter_agree}
@@ -60,10 +60,6 @@ tried rebases words rs k r = reaches r (slice_get rs (k + 1)) || strays rebases 
 abbrev pub AreClear : List Location → List Location → List Reference → ℕ → Type 0
 AreClear rebases words rs n = (k : ℕ) (d : Reference) → k < n → k < length rs → tried rebases words rs k (get_or rs k d) ≡ false
 
-neither : (a b : Bool) → (a || b) ≡ false → (a ≡ false) × (b ≡ false)
-neither true b is = absurd (true≢false is)
-neither false b is = (refl, is)
-
 either : (a b : Bool) → (a || b) ≡ true → ((a ≡ true) → (a || b) ≡ true) × (b ≡ false → a ≡ true)
 either true b is = (λ e. refl, λ e. refl)
 either false b is = (λ e. is, λ e. absurd (true≢false (sym is ∙ e)))
@@ -75,7 +71,7 @@ ends_before rebases words rs n k j d rises clear lt more inside =
     let next = get_or rs (k + 1) d in
     let here = get_or rs k d in
     let there : slice_get rs (k + 1) ≡ Some next = slice_get-get_or rs (k + 1) d (omega arith) in
-    let apart : meets here next ≡ false = ap (λ (o : Option Reference). reaches here o) (sym there) ∙ (neither (reaches here (slice_get rs (k + 1))) (strays rebases words here) (clear k d lt (omega arith))).0 in
+    let apart : meets here next ≡ false = ap (λ (o : Option Reference). reaches here o) (sym there) ∙ (or_parts (reaches here (slice_get rs (k + 1))) (strays rebases words here) (clear k d lt (omega arith))).0 in
     let up = rises k (k + 1) d (omega arith) (omega arith) in
     let far = meet_not here next up apart in
     let rest = rises (k + 1) j d (omega arith) inside in
@@ -85,7 +81,7 @@ ends_before rebases words rs n k j d rises clear lt more inside =
 pub clear_apart : (rebases words : List Location) (rs : List Reference) (j : ℕ) (d : Reference) → IsNonDecreasingBy from_of rs → AreClear rebases words rs (j + 1) → j < length rs → overlaps rebases words rs (get_or rs j d) ≡ false
 clear_apart rebases words rs j d rises clear lt =
     let r = get_or rs j d in
-    let stray : strays rebases words r ≡ false = (neither (reaches r (slice_get rs (j + 1))) (strays rebases words r) (clear j d (omega arith) lt)).1 in
+    let stray : strays rebases words r ≡ false = (or_parts (reaches r (slice_get rs (j + 1))) (strays rebases words r) (clear j d (omega arith) lt)).1 in
     let few : count_by (meets r) rs ≤ 1 =
     one_counted (meets r) rs j (λ k e inside apart.
     let same : get_or rs j d ≡ get_or rs j e = get_or_read rs j r lt (get_or_self rs j d lt) e in
@@ -107,14 +103,10 @@ clear_apart rebases words rs j d rises clear lt =
 -- and one that doesn't pass overlaps
 pub tried_overlaps : (rebases words : List Location) (rs : List Reference) (i : ℕ) (r : Reference) → i < length rs → r ≡ get_or rs i r → tried rebases words rs i r ≡ true → overlaps rebases words rs r ≡ true
 tried_overlaps rebases words rs i r lt is fails = elim (cases_Bool (strays rebases words r)) [
-  | inl stray ↦ or_true (nat_lt 1 (count_by (meets r) rs)) (strays rebases words r) stray
+  | inl stray ↦ or_right (nat_lt 1 (count_by (meets r) rs)) (strays rebases words r) stray
   | inr none ↦ go (slice_get rs (i + 1)) refl ((either (reaches r (slice_get rs (i + 1))) (strays rebases words r) fails).1 none)
 ]
   where
-    or_true : (a b : Bool) → b ≡ true → (a || b) ≡ true
-    or_true true b is = refl
-    or_true false b is = is
-
     go : (o : Option Reference) → slice_get rs (i + 1) ≡ o → reaches r o ≡ true → overlaps rebases words rs r ≡ true
     go None there met = absurd (true≢false (sym met))
     go (Some s) there met =

@@ -1,24 +1,19 @@
 -- The whole of a stream, and what is tried when it was read.
 use Rattle.std.proofs.Common.{refl, ◌≡◌, ◌++◌, ℕ, Bool, true, false, List, [], length, sym, ap, ap₂, ◌∙◌, subst, append-nil, nat_eq, if◌then◌else◌, Option, None}
-use Rattle.std.specs.Prelude.{slice_index, Result, Ok, Err, IsErrAnd}
+use Rattle.std.specs.Prelude.{slice_index}
 use Rattle.std.specs.Option.{option_or}
 use Rattle.dsc_base.specs.declared.fault.Site.{Site}
 use Rattle.dsc_base.specs.declared.fault.Fault.{Fault}
 use Rattle.dsc_base.specs.declared.fault.Fault.TheVariants.{Broken, Memory}
 use Rattle.dsc_base.specs.declared.rule.Rule.TheVariants.{NoSplitInfo, SplitNotV2, SplitOverlap}
 use Rattle.macho_image.specs.Records.{Img}
-use Rattle.dsc_base.specs.Refusals.{broken, IsRefusal, Refuses}
+use Rattle.dsc_base.specs.Refusals.{broken, IsRefusal}
 use Rattle.macho_image.specs.declared.place.Location.{Location}
 use Rattle.split_info.specs.declared.reference.Reference.{Reference}
 use Rattle.split_info.specs.Stream.{Spelled, End, Refused, number, spelled}
 use Rattle.split_info.specs.Split.{is_unsplit, spelled_of, references, references_of, reading_break, split_break}
 use Rattle.split_info.specs.Overlap.{overlap_at}
 use Rattle.split_info.specs.Reading.{pairs, IsRead}
-
--- a fault that is handed on
-pub refuses_on : {X : Type 0} (found : Option Site) (r : Result X Fault) (fault : Fault) → IsErrAnd r (λ other. other ≡ fault) → IsRefusal found fault → Refuses found r
-refuses_on found (Ok x) fault is refused = absurd is
-refuses_on found (Err other) fault is refused = subst (λ (f : Fault). IsRefusal found f) (sym is) refused
 
 -- ---- A stream
 
@@ -50,15 +45,6 @@ part_refused rebases old whole same fault none is refused =
 pub whole_refused : (rebases : List Location) (whole : Spelled) (site : Site) (fault : Fault) → whole ≡ Refused site → fault ≡ Broken site → IsRefusal (reading_break rebases 0 whole) fault
 whole_refused rebases whole site fault is fault_is =
     subst (λ (f : Fault). IsRefusal (reading_break rebases 0 whole) f) (sym fault_is) (ap (λ (s : Spelled). reading_break rebases 0 s) is)
-
--- without a stream there are none
-pub no_references : (image : Img) → references_of None image ≡ []
-unfolding references_of spelled_of
-no_references image = go (is_unsplit image)
-  where
-    go : (b : Bool) → references (if b then Refused (record { rule = NoSplitInfo; at = 0 }) else End) ≡ []
-    go true = refl
-    go false = refl
 
 -- ---- Behind the stream
 

@@ -1,20 +1,19 @@
 -- What the rules on a header say of its image's sections: each lies in its segment, below 2 ^ 47.
-use Rattle.std.proofs.Common.{◌≡◌, ◌≤◌, ◌+◌, ℕ, zero, suc, Bool, true, false, not, List, [], ◌∷◌, ◌++◌, map, refl, sym, ap, ◌∙◌, subst, arith, if◌then◌else◌, cond, inl, inr, Option, Some, None}
-use Rattle.std.specs.Prelude.{find, option_map, slice_get}
+use Rattle.std.proofs.Common.{◌≡◌, ◌≤◌, ◌+◌, ℕ, zero, suc, true, false, not, List, [], ◌∷◌, ◌++◌, map, refl, sym, ap, ◌∙◌, subst, arith, Option, Some, None}
+use Rattle.std.specs.Prelude.{option_map, slice_get}
 use Rattle.std.specs.List.{AllByRecursion}
-use Rattle.std.proofs.lemmas.Bool.{cases_Bool}
+use Rattle.std.proofs.lemmas.Bool.{not-false}
 use Rattle.std.proofs.lemmas.Bool.Decides.{nat_tests}
 use Rattle.std.proofs.lemmas.Option.{slice_get-map}
-use Rattle.dsc_base.specs.declared.fault.Site.{Site}
-use Rattle.dsc_base.specs.declared.rule.Rule.TheVariants.{SegmentShape, SegmentProt, SectionShape, Interposing, HasRelocations}
 use Rattle.macho_image.specs.Records.{Img, Seg, SegmentLoad, SectionLoad}
 use Rattle.macho_image.specs.declared.section.Section.{Section}
 use Rattle.macho_image.specs.Macho.{header_size, loads_of, segment_loads, segment_with, section_of, sections_from}
-use Rattle.macho_image.specs.Rules.{first_segment, is_text, sections_stand, sections_start, first_crowded, breaks_segment_shape, breaks_segment_prot, breaks_section_shape, breaks_interposing, breaks_has_relocations}
-use Rattle.macho_image.specs.Breaks.{kind_break, command_break, header_break, section_break, name_break, form_of, unread, IsSound}
-use Rattle.dsc_base.specs.Refusals.{broken, first_break}
-use Rattle.macho_image.proofs.Unbroken.{or_none, broken_none, least_none_both}
+use Rattle.macho_image.specs.Rules.{first_segment, sections_stand, sections_start, first_crowded}
+use Rattle.macho_image.specs.Breaks.{unread, IsSound}
+use Rattle.macho_image.proofs.Unbroken.{least_none_both}
 use Rattle.macho_image.proofs.SoundSegments.{segments_low}
+use Rattle.macho_image.proofs.HeaderRules.{sound_rules, all_fail}
+use Rattle.macho_image.proofs.SectionLaws.{start_above}
 
 -- a section lies in the segment of its number
 pub record IsInside (image : Img) (x : Section) : Type 0 where
@@ -32,13 +31,6 @@ pub record IsInLoads (k : ℕ) (ls : List SegmentLoad) (x : Section) : Type 0 wh
   pub number : x.segment ≡ k + index
   pub from : load.vmaddr ≤ x.addr
   pub to : x.addr + x.size ≤ load.vmaddr + load.vmsize
-
-start_above : (size : ℕ) (l : SegmentLoad) → l.vmaddr ≤ sections_start size l
-start_above size l = go (is_text l)
-  where
-    go : (b : Bool) → l.vmaddr ≤ (if b then l.vmaddr + size else l.vmaddr)
-    go true = omega arith
-    go false = omega arith
 
 stand_inside : (size k floor : ℕ) (l : SegmentLoad) (ls : List SegmentLoad) (xs : List SectionLoad) → sections_stand l (sections_start size l) floor xs ≡ true → AllByRecursion (IsInLoads k (l ∷ ls)) (map (section_of k) xs)
 unfolding section_of
@@ -62,41 +54,11 @@ joined : (P : Section → Type 0) (xs ys : List Section) → AllByRecursion P xs
 joined P [] ys first second = second
 joined P (x ∷ xs) ys first second = (first.0, joined P xs ys first.1 second)
 
-all_inside : (size k : ℕ) (ls : List SegmentLoad) → first_segment (λ l. not (sections_stand l (sections_start size l) 0 l.sections)) ls ≡ None → AllByRecursion (IsInLoads k ls) (sections_from k ls)
-all_inside size k [] none = tt
-all_inside size k (l ∷ ls) none = elim (cases_Bool (sections_stand l (sections_start size l) 0 l.sections)) [
-  | inl stand ↦
-      joined (IsInLoads k (l ∷ ls)) (map (section_of k) l.sections) (sections_from (k + 1) ls) (stand_inside size k 0 l ls l.sections stand)
-      (one_later k l ls (sections_from (k + 1) ls) (all_inside size (k + 1) ls (sym (turned true stand) ∙ none)))
-  | inr fall ↦ absurd (some_none l.at (sym (turned false fall) ∙ none))
-]
-  where
-    turned : (b : Bool) → sections_stand l (sections_start size l) 0 l.sections ≡ b
-        → first_segment (λ l. not (sections_stand l (sections_start size l) 0 l.sections)) (l ∷ ls)
-        ≡ option_map (λ (t : SegmentLoad). t.at) (cond (not b) (Some l) (find (λ l. not (sections_stand l (sections_start size l) 0 l.sections)) ls))
-    turned b e = ap (λ (c : Bool). option_map (λ (t : SegmentLoad). t.at) (cond (not c) (Some l) (find (λ l. not (sections_stand l (sections_start size l) 0 l.sections)) ls))) e
-
-    some_none : (k : ℕ) → ◌≡◌ {A = Option ℕ} (Some k) None → ⊥
-    some_none k e = cc
-
--- what rule 12 gives of an image's sections
-pub section_shape : (image : Img) → IsSound image → breaks_section_shape (header_size image.header) (segment_loads (loads_of image.header)) ≡ None
-unfolding header_break section_break
-section_shape image sound =
-    let ls = loads_of image.header in
-    let ss = segment_loads ls in
-    let size = header_size image.header in
-    let prot : Option Site = broken SegmentProt (breaks_segment_prot ss) in
-    let shape : Option Site = broken SectionShape (breaks_section_shape size ss) in
-    let after : List (Option Site) = broken Interposing (breaks_interposing ss) ∷ broken HasRelocations (breaks_has_relocations ss ls) ∷ [] in
-    let one = or_none (kind_break (form_of image.header) image.header)
-    (first_break (command_break ls ∷ broken SegmentShape (breaks_segment_shape size ss) ∷ section_break size ss ls ∷ name_break ls ∷ [])) sound.unbroken in
-    let two = or_none (command_break ls) (first_break (broken SegmentShape (breaks_segment_shape size ss) ∷ section_break size ss ls ∷ name_break ls ∷ [])) one.1 in
-    let three = or_none (broken SegmentShape (breaks_segment_shape size ss)) (first_break (section_break size ss ls ∷ name_break ls ∷ [])) two.1 in
-    let four = or_none (section_break size ss ls) (first_break (name_break ls ∷ [])) three.1 in
-    let five = or_none prot (first_break (shape ∷ after)) four.0 in
-    let six = or_none shape (first_break after) five.1 in
-    broken_none SectionShape (breaks_section_shape size ss) six.0
+all_inside : (size k : ℕ) (ls : List SegmentLoad) → AllByRecursion (λ (l : SegmentLoad). not (sections_stand l (sections_start size l) 0 l.sections) ≡ false) ls → AllByRecursion (IsInLoads k ls) (sections_from k ls)
+all_inside size k [] stand = tt
+all_inside size k (l ∷ ls) stand =
+    joined (IsInLoads k (l ∷ ls)) (map (section_of k) l.sections) (sections_from (k + 1) ls) (stand_inside size k 0 l ls l.sections (not-false (sections_stand l (sections_start size l) 0 l.sections) stand.0))
+    (one_later k l ls (sections_from (k + 1) ls) (all_inside size (k + 1) ls stand.1))
 
 at_index : {X : Type 0} (P : X → Type 0) (xs : List X) (k : ℕ) (x : X) → AllByRecursion P xs → slice_get xs k ≡ Some x → P x
 at_index P [] k x all there = absurd (cc)
@@ -126,8 +88,8 @@ pub section_inside : (image : Img) (k : ℕ) (x : Section) → IsSound image →
 section_inside image k x sound there =
     let ls = segment_loads (loads_of image.header) in
     let size = header_size image.header in
-    let shape = least_none_both (first_segment (λ l. not (sections_stand l (sections_start size l) 0 l.sections)) ls) (first_crowded 0 ls) (section_shape image sound) in
-    let h = at_index (IsInLoads 0 ls) (sections_from 0 ls) k x (all_inside size 0 ls shape.0) (ap (λ (xs : List Section). slice_get xs k) (sym sound.sections) ∙ there) in
+    let shape = least_none_both (first_segment (λ l. not (sections_stand l (sections_start size l) 0 l.sections)) ls) (first_crowded 0 ls) (sound_rules image sound).sections in
+    let h = at_index (IsInLoads 0 ls) (sections_from 0 ls) k x (all_inside size 0 ls (all_fail (λ l. not (sections_stand l (sections_start size l) 0 l.sections)) ls shape.0)) (ap (λ (xs : List Section). slice_get xs k) (sym sound.sections) ∙ there) in
     let s = segment_there image h.index h.load sound h.load_is in
     let number : h.index ≡ x.segment = omega (arith, h.number) in
     let place : slice_get image.segments x.segment ≡ Some s.segment = ap (λ (i : ℕ). slice_get image.segments i) (sym number) ∙ s.segment_is in

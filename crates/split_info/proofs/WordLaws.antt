@@ -2,7 +2,7 @@
 use Rattle.std.proofs.Common.{◌≡◌, ◌≤◌, ◌<◌, ◌+◌, ◌-◌, ℕ, Bool, true, false, ◌&&◌, List, length, get_or, refl, sym, ap, arith, nat_eq, nat_lt, nat_le, inl, inr}
 use Rattle.std.specs.List.{list_any}
 use Rattle.std.specs.List.Sorted.{IsNonDecreasingBy, IsPartitionedBy, IsPartitionPoint}
-use Rattle.std.proofs.lemmas.Bool.{cases_lt}
+use Rattle.std.proofs.lemmas.Bool.{cases_lt, ne_eqb, eqb-false}
 use Rattle.std.proofs.lemmas.Bool.Decides.{nat_tests}
 use Rattle.std.proofs.lemmas.List.{get_or_read}
 use Rattle.macho_image.specs.declared.place.Location.{Location}
@@ -56,32 +56,26 @@ ends_parted from ls rises i j d le lt is =
     ends_is from (get_or ls i d) (omega (arith, up, low))
 
 -- a word at an address
-stands_apart : (from a : ℕ) → (a ≡ from → ⊥) → nat_eq a from ≡ false
-stands_apart from a apart = grind (arith, nat_tests)
-
-stands_not : (from a : ℕ) → nat_eq a from ≡ false → a ≡ from → ⊥
-stands_not from a is same = grind (arith, nat_tests)
-
 pub stands_at : (from : ℕ) (ls : List Location) (i : ℕ) (l : Location) → IsNonDecreasingBy address_of ls → IsPoint (is_below from) ls i → i < length ls → l ≡ get_or ls i l
     → nat_eq l.address from ≡ list_any (λ (m : Location). nat_eq m.address from) ls
 stands_at from ls i l rises point lt is =
     any_at (λ (m : Location). nat_eq m.address from) ls i l lt is
     (λ k d before.
     let low = below_yes from (get_or ls k d) (point.0 k d (omega arith) before) in
-    stands_apart from (get_or ls k d).address (λ same. omega (arith, low, same)))
+    ne_eqb (get_or ls k d).address from (λ same. omega (arith, low, same)))
     (λ fails k d behind inside.
     let up = rises i k d (omega arith) inside in
     let here : l ≡ get_or ls i d = get_or_read ls i l lt is d in
     let same : l.address ≡ (get_or ls i d).address = ap address_of here in
     let high = below_no from (get_or ls i d) (point.1 i d (omega arith) lt) in
-    let apart = stands_not from l.address fails in
-    stands_apart from (get_or ls k d).address (λ e. apart (omega (arith, up, same, high, e))))
+    let apart = eqb-false l.address from fails in
+    ne_eqb (get_or ls k d).address from (λ e. apart (omega (arith, up, same, high, e))))
 
 pub stands_past : (from : ℕ) (ls : List Location) (i : ℕ) → IsPoint (is_below from) ls i → length ls ≤ i → false ≡ list_any (λ (m : Location). nat_eq m.address from) ls
 stands_past from ls i point past =
     sym (any_nowhere (λ (m : Location). nat_eq m.address from) ls (λ k d inside.
     let low = below_yes from (get_or ls k d) (point.0 k d (omega arith) (omega arith)) in
-    stands_apart from (get_or ls k d).address (λ same. omega (arith, low, same))))
+    ne_eqb (get_or ls k d).address from (λ same. omega (arith, low, same))))
 
 -- a word that shares a byte with some others
 abbrev pub shares_word : ℕ → ℕ → Location → Bool

@@ -1,16 +1,17 @@
 // Sets of small dylibs planned: the edits and the chained words of their first image, or what is refused.
-ghost use Rattle.std.specs.Prelude.{◌≡◌, ◌≤◌, ◌<◌, None, length, map, All, IfOk, OnOk};
+ghost use Rattle.std.specs.Prelude.{◌≡◌, ◌≤◌, None, length, map, All, IfOk};
 ghost use Rattle.prebind.specs.Sets.{lists_of, streams_break, IsSoundSet};
 ghost use Rattle.prebind.specs.Steps.{set_of};
-ghost use Rattle.ref_rewrite.specs.Planned.{AreSplitRead, AreAllPlaced};
+ghost use Rattle.prebind.specs.Placed.{AreListsPlaced};
+ghost use Rattle.ref_rewrite.specs.Planned.{AreSplitRead};
 
 use super::dylibs::{Dylib, file_of};
 use crate::{ImagePlan, plan};
 use cache_layout::lay_out;
 use dep_closure::link_set;
 use dsc_base::SetFault;
-use macho_image::{Form, Image, read_image};
-use prebind::{ImageStreams, PlacedWord, Set, place_words, read_streams};
+use macho_image::{Image, read_images};
+use prebind::{ImageStreams, PlacedWord, Set, place_words, read_all_streams};
 use std::alloc::Global;
 use std::process::Abort;
 use std::test::*;
@@ -158,43 +159,10 @@ fn files_of(alloc: Global, dylibs: &[Dylib]) -> Result<Vec<Vec<u8>>, Fail> {
     Ok(files)
 }
 
-fn images_of<'a>(alloc: Global, files: &'a [Vec<u8>]) -> Result<Vec<Image<'a>>, Fail> {
-    let mut images = Vec::new(alloc);
-    for file in files {
-        let image = read_image(alloc, file, 0, Form::Standalone)
-            .ok()
-            .ok_or("the dylib is read")?;
-        images.push(image)?;
-    }
-    Ok(images)
-}
-
-fn streams_in<'a>(alloc: Global, image: &Image<'a>) -> Result<ImageStreams<'a>, Fail>
-    ensures lists { IfOk result (λ s. s ≡ lists_of image.now) }
-    ensures unbroken { OnOk result (streams_break image.now ≡ None) }
-{
-    match read_streams(alloc, image) {
-        Ok((streams, _)) => Ok(streams),
-        Err(_) => Err("the streams are read")?,
-    }
-}
-
-fn streams_of<'a>(alloc: Global, images: &[Image<'a>]) -> Result<Vec<ImageStreams<'a>>, Fail>
-    ensures lists { IfOk result (λ v. v.items ≡ map lists_of images.now) }
-    ensures unbroken { OnOk result (All (λ i. streams_break i ≡ None) images.now) }
-{
-    let mut streams = Vec::new(alloc);
-    for image in images {
-        let read = streams_in(alloc, image)?;
-        streams.push(read)?;
-    }
-    Ok(streams)
-}
-
 // The pointers of each image.
 fn all_placed(alloc: Global, set: &Set<'_, '_>) -> Result<Vec<Vec<PlacedWord>>, Fail>
     requires { IsSoundSet (set_of set.now) }
-    ensures { IfOk result (λ v. AreAllPlaced (set_of set.now) (map (λ w. w.items) v.items)) }
+    ensures { IfOk result (λ v. AreListsPlaced (set_of set.now) (map (λ w. w.items) v.items)) }
 {
     let mut placed = Vec::new(alloc);
     for number in 0..set.images.len() {
@@ -242,18 +210,19 @@ fn stands(
     rt: &impl Abort,
     alloc: Global,
     images: &[Image<'_>],
+    streams: &[ImageStreams<'_>],
     wanted: &Wanted,
     title: &str,
-) -> Result<(), Fail> {
-    if images.len() > 4097 {
-        return Err("few images")?;
-    }
-    let streams = streams_of(alloc, images)?;
+) -> Result<(), Fail>
+    requires few { length images.now ≤ 4097 }
+    requires lists { streams.now ≡ map lists_of images.now }
+    requires unbroken { All (λ i. streams_break i ≡ None) images.now }
+{
     match link_set(alloc, images) {
         Ok(links) => {
             let set = Set {
                 images,
-                streams: &streams,
+                streams,
                 links: &links,
             };
             match (planned(alloc, &set)?, wanted) {
@@ -273,13 +242,32 @@ fn stands(
     }
 }
 
+fn row_stands(
+    rt: &impl Abort,
+    alloc: Global,
+    images: &[Image<'_>],
+    wanted: &Wanted,
+    title: &str,
+) -> Result<(), Fail> {
+    if images.len() > 4097 {
+        return Err("few images")?;
+    }
+    match read_all_streams(alloc, images) {
+        Ok(streams) => stands(rt, alloc, images, &streams, wanted, title),
+        Err(_) => Err("the streams are read")?,
+    }
+}
+
 #[test]
 fn rows(rt: HostRuntime) -> Result<(), Fail> {
     let alloc = rt.alloc();
     for (title, dylibs, wanted) in &ROWS {
         let files = files_of(alloc, dylibs)?;
-        let images = images_of(alloc, &files)?;
-        stands(&rt, alloc, &images, wanted, title)?;
+        assert!(rt; files.len() <= 4096);
+        let images = read_images(alloc, &files)
+            .ok()
+            .ok_or("the dylibs are read")?;
+        row_stands(&rt, alloc, &images, wanted, title)?;
     }
     Ok(())
 }

@@ -4,13 +4,13 @@ use Rattle.macho_image.specs.Views.{image_view}
 use Rattle.dsc_base.specs.Region.{padded}
 use Rattle.macho_edit.specs.declared.spots.LinkSpots.{LinkSpots}
 use Rattle.macho_edit.specs.Cached.{formed_header, unrebased}
-use Rattle.macho_edit.proofs.SoundLaws.{sound_rules}
 use Rattle.macho_edit.proofs.FrontLaws.{formed_from, cached_is}
 use Rattle.macho_image.specs.declared.place.Moved.{Moved}
 use Rattle.macho_edit.proofs.OnlyMoved.{only_cached}
 use Rattle.macho_edit.proofs.Reread.{unrebased_can, reread_from}
 use Rattle.macho_edit.specs.Conditions.{AreLow}
 use Rattle.macho_edit.proofs.header.cached_header.Goals as goal
+use Rattle.macho_image.proofs.HeaderRules.{sound_rules}
 
 pub write_header-requires-clause-shape : goal.write_header-requires-clause-shape
 write_header-requires-clause-shape c = let kept = sound_rules (image_view c.image.inside) c.image.invariant in kept.shape

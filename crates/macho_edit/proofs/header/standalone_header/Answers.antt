@@ -1,12 +1,12 @@
 use Rattle.std.proofs.Common.{◌<◌, ◌^◌, ◌∙◌, subst, All}
 use Rattle.macho_image.specs.declared.form.Form.TheVariants.{Standalone}
 use Rattle.macho_image.specs.Views.{image_view}
-use Rattle.macho_edit.proofs.SoundLaws.{sound_rules}
 use Rattle.macho_edit.proofs.FrontLaws.{formed_from, standalone_is}
 use Rattle.macho_image.specs.declared.place.Moved.{Moved}
 use Rattle.macho_edit.proofs.OnlyMoved.{only_alone}
 use Rattle.macho_edit.proofs.Reread.{reread_alone}
 use Rattle.macho_edit.proofs.header.standalone_header.Goals as goal
+use Rattle.macho_image.proofs.HeaderRules.{sound_rules}
 
 pub write_header-requires-clause-shape : goal.write_header-requires-clause-shape
 write_header-requires-clause-shape c = let kept = sound_rules (image_view c.image.inside) c.image.invariant in kept.shape

@@ -4,7 +4,7 @@ use Rattle.dsc_base.specs.declared.fault.Site.{Site}
 use Rattle.macho_image.specs.Records.{SegmentLoad, Img}
 use Rattle.macho_image.specs.Macho.{segment_loads, image_from, image_of}
 use Rattle.macho_image.specs.Breaks.{image_unless, command_break, IsSound}
-use Rattle.macho_image.proofs.Unbroken.{refused_kind, refused_commands, refused_loads, none_broken, few_segments, image_sound}
+use Rattle.macho_image.proofs.Unbroken.{refused_kind, refused_commands, refused_loads, none_broken, few_loads, image_sound}
 use Rattle.macho_image.proofs.read.read_image.Goals as goal
 
 pub returns-in_err-commands-clause-cause : goal.returns-in_err-commands-clause-cause
@@ -30,7 +30,7 @@ returns-in_err-check_loads-clause-cause c =
 pub make_image-requires-clause-few : goal.make_image-requires-clause-few
 make_image-requires-clause-few c =
     let all = c.deref-6.ensures.value ∙ (c.in_ok-loads.ensures.found ∙ ap segment_loads (c.deref-2.ensures.value ∙ c.in_ok-commands.ensures.found)) in
-    subst (λ (ss : List SegmentLoad). length ss < 2 ^ 32) (sym all) (few_segments c.header_in-header.result.now (λ k. let fits = c.type_inv.header k in omega (arith, fits)))
+    subst (λ (ss : List SegmentLoad). length ss < 2 ^ 32) (sym all) (few_loads c.header_in-header.result.now (λ k. let fits = c.type_inv.header k in omega (arith, fits)))
 
 pub make_image-requires-clause-sound : goal.make_image-requires-clause-sound
 make_image-requires-clause-sound c =

@@ -20,6 +20,7 @@ use Rattle.ref_rewrite.proofs.FollowingLaws.{own_sized, made_follow}
 use Rattle.ref_rewrite.proofs.MappingLaws.{made_rewritten}
 use Rattle.ref_rewrite.proofs.SetLaws.{none_before, none_more, none_at_all, refused_at, all_start, ends_low, span_is, ends_behind}
 use Rattle.ref_rewrite.proofs.planning.plan.Goals as goal
+use Rattle.prebind.proofs.PlacedLists.{placed_at}
 
 pub loop-number-init : goal.loop-number-init
 loop-number-init c =
@@ -50,10 +51,10 @@ plan_at-requires-clause-placed c =
     let placed = c.args.placed.now in
     let n = c.loop-number.number in
     let vector = c.index-placed-number.result in
-    let inside : n < length placed = omega (arith, length-map placed (λ (v : Vec PlacedWord Global). v.items), c.requires.placed.many) in
+    let inside : n < length placed = omega (arith, length-map placed (λ (v : Vec PlacedWord Global). v.items), c.requires.placed.count) in
     let words : get_or (map (λ (v : Vec PlacedWord Global). v.items) placed) n [] ≡ c.as_slice-words.result.now =
     get_or-map (λ (v : Vec PlacedWord Global). v.items) placed n vector [] inside ∙ (sym (ap (λ (v : Vec PlacedWord Global). v.items) c.index-placed-number.is) ∙ sym c.as_slice-words.ensures.value) in
-    subst (λ (ws : List PlacedWord). ArePlaced (pointers_of (set_of c.args.set.now) n) ws) words (c.requires.placed.each n (omega arith))
+    subst (λ (ws : List PlacedWord). ArePlaced (pointers_of (set_of c.args.set.now) n) ws) words (placed_at (set_of c.args.set.now) (map (λ (v : Vec PlacedWord Global). v.items) c.args.placed.now) c.requires.placed n (omega arith))
 
 pub plan_at-requires-clause-parts : goal.plan_at-requires-clause-parts
 plan_at-requires-clause-parts c = λ m.
@@ -68,7 +69,7 @@ loop-number-preserved c =
     let placed = c.args.placed.now in
     let n = c.loop-number.number in
     let vector = c.index-placed-number.result in
-    let inside : n < length placed = omega (arith, length-map placed (λ (v : Vec PlacedWord Global). v.items), c.requires.placed.many) in
+    let inside : n < length placed = omega (arith, length-map placed (λ (v : Vec PlacedWord Global). v.items), c.requires.placed.count) in
     let words : get_or (map (λ (v : Vec PlacedWord Global). v.items) placed) n [] ≡ c.as_slice-words.result.now =
     get_or-map (λ (v : Vec PlacedWord Global). v.items) placed n vector [] inside ∙ (sym (ap (λ (v : Vec PlacedWord Global). v.items) c.index-placed-number.is) ∙ sym c.as_slice-words.ensures.value) in
     let layout = c.args.layout.now in

@@ -4,9 +4,10 @@ use Rattle.macho_image.specs.declared.place.Location.{Location}
 use Rattle.dsc_base.specs.Refusals.{IsRefusal}
 use Rattle.split_info.specs.declared.reference.Reference.{Reference}
 use Rattle.split_info.specs.Split.{spelled_of, reading_break, split_break, AreReferences}
-use Rattle.split_info.proofs.ReadLaws.{refuses_on, reading_refused, overlap_is, overlap_read, reading_kept}
+use Rattle.split_info.proofs.ReadLaws.{reading_refused, overlap_is, overlap_read, reading_kept}
 use Rattle.split_info.proofs.AcceptLaws.{accepted}
 use Rattle.split_info.proofs.read.read_split.Goals as goal
+use Rattle.macho_image.proofs.StreamLaws.{refuses_on}
 
 pub returns-in_err-references-clause-cause : goal.returns-in_err-references-clause-cause
 returns-in_err-references-clause-cause c =

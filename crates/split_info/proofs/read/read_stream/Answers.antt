@@ -1,8 +1,9 @@
 use Rattle.std.proofs.Common.{sym, ◌∙◌}
 use Rattle.split_info.specs.Stream.{End, spelled}
 use Rattle.split_info.specs.Split.{reading_break}
-use Rattle.split_info.proofs.ReadLaws.{refuses_on, other_format, own_format, all_read, part_refused, whole_refused}
+use Rattle.split_info.proofs.ReadLaws.{other_format, own_format, all_read, part_refused, whole_refused}
 use Rattle.split_info.proofs.read.read_stream.Goals as goal
+use Rattle.macho_image.proofs.StreamLaws.{refuses_on}
 
 pub returns-then-not-is_version_two-clause-cause : goal.returns-then-not-is_version_two-clause-cause
 returns-then-not-is_version_two-clause-cause c =

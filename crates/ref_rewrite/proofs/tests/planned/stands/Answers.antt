@@ -1,4 +1,4 @@
-use Rattle.std.proofs.Common.{◌≤◌, length, ◌∙◌, subst}
+use Rattle.std.proofs.Common.{subst}
 use Rattle.prebind.proofs.SetLaws.{have_streams, set_made, sound_read}
 use Rattle.ref_rewrite.specs.Planned.{AreSplitRead}
 use Rattle.ref_rewrite.proofs.ReadLaws.{set_read}
@@ -7,10 +7,9 @@ use Rattle.ref_rewrite.proofs.tests.planned.stands.Goals as goal
 pub planned-requires-clause-sound : goal.planned-requires-clause-sound
 planned-requires-clause-sound g c =
     let images = c.args.images.now in
-    let few : length images ≤ 4097 = c.if-images-gt4097.false in
-    sound_read images c.deref.result.now c.in-Ok.links (c.deref.ensures.value ∙ c.in_ok-streams.ensures.lists) c.in-Ok.ensures.links few (have_streams images c.in_ok-streams.ensures.unbroken) c.in-Ok.ensures.cause
+    sound_read images c.args.streams.now c.in-Ok.links c.requires.lists c.in-Ok.ensures.links c.requires.few (have_streams images c.requires.unbroken) c.in-Ok.ensures.cause
 
 pub planned-requires-clause-read : goal.planned-requires-clause-read
 planned-requires-clause-read g c =
     let images = c.args.images.now in
-    subst AreSplitRead (set_made images c.deref.result.now c.in-Ok.links (c.deref.ensures.value ∙ c.in_ok-streams.ensures.lists) c.in-Ok.ensures.links) (set_read images (have_streams images c.in_ok-streams.ensures.unbroken))
+    subst AreSplitRead (set_made images c.args.streams.now c.in-Ok.links c.requires.lists c.in-Ok.ensures.links) (set_read images (have_streams images c.requires.unbroken))

@@ -1,7 +1,6 @@
-use Rattle.std.proofs.Common.{◌≡◌, ◌<◌, ℕ, List, length, get_or, sym, ap, ◌∙◌, subst, arith}
+use Rattle.std.proofs.Common.{◌<◌, ℕ, List, length, get_or, sym, ap, ◌∙◌, subst, arith}
 use Rattle.macho_image.specs.Records.{Img, Seg}
-use Rattle.macho_image.specs.declared.places.segment_index.Entry.{Entry}
-use Rattle.macho_image.specs.Index.{AreApart, Indexes}
+use Rattle.macho_image.specs.Index.{AreApart}
 use Rattle.macho_image.proofs.SoundSegments.{segments_keep_apart, few_segments}
 use Rattle.macho_image.proofs.places.segment_index.SegmentIndex.new.Goals as goal
 

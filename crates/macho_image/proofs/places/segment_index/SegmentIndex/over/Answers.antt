@@ -1,4 +1,4 @@
-use Rattle.std.proofs.Common.{rules, ◌<◌, ℕ, List}
+use Rattle.std.proofs.Common.{rules}
 use Rattle.std.proofs.lemmas.List.Sorted.{IsNonDecreasingBy-from_sort_by_key}
 use Rattle.macho_image.specs.declared.places.segment_index.Entry.{Entry}
 use Rattle.macho_image.proofs.IndexLaws.{index_in_turn, index_found}

@@ -1,7 +1,8 @@
 use Rattle.macho_image.specs.declared.form.Form.TheVariants.{Standalone}
-use Rattle.load_model.specs.Phases.{shape_break}
-use Rattle.load_model.proofs.AcceptLaws.{shape_slice, shape_image, shape_none, image_found, handed_on}
-use Rattle.load_model.proofs.accept.accept.Goals as goal
+use Rattle.macho_image.specs.Files.{shape_break}
+use Rattle.macho_image.proofs.FileLaws.{shape_slice, shape_image, shape_none, handed_on}
+use Rattle.macho_image.proofs.files.read_dylib.Goals as goal
+use Rattle.macho_image.proofs.Unbroken.{image_at-some}
 
 pub returns-in_err-dylib-clause-cause : goal.returns-in_err-dylib-clause-cause
 returns-in_err-dylib-clause-cause c =
@@ -14,4 +15,4 @@ returns-in_err-image-clause-cause c =
 
 pub returns-clause-unbroken : goal.returns-clause-unbroken
 returns-clause-unbroken c =
-    shape_none c.args.file.now c.in_ok-dylib.dylib.now c.in_ok-dylib.ensures.cause c.in_ok-dylib.ensures.dylib (image_found Standalone c.in_ok-dylib.dylib.now 0 c.in_ok-image.image c.in_ok-image.ensures.image).0
+    shape_none c.args.file.now c.in_ok-dylib.dylib.now c.in_ok-dylib.ensures.cause c.in_ok-dylib.ensures.dylib (image_at-some Standalone c.in_ok-dylib.dylib.now 0 c.in_ok-image.image c.in_ok-image.ensures.image).0

@@ -1,26 +1,15 @@
 -- What the tests of one file amount to.
-use Rattle.std.proofs.Common.{◌≡◌, ℕ, Option, Some, None, List, refl, sym, ap, ◌∙◌, subst}
+use Rattle.std.proofs.Common.{◌≡◌, ℕ, Option, None, List, sym, ap, ◌∙◌, subst}
 use Rattle.std.specs.Prelude.{Result, Ok, Err, IsErrAnd, IfErr}
 use Rattle.std.specs.Option.{option_or}
 use Rattle.dsc_base.specs.declared.fault.Site.{Site}
 use Rattle.dsc_base.specs.declared.fault.Fault.{Fault}
 use Rattle.dsc_base.specs.declared.fault.Fault.TheVariants.{Broken, Memory}
-use Rattle.macho_image.specs.declared.form.Form.{Form}
 use Rattle.macho_image.specs.declared.form.Form.TheVariants.{Standalone}
-use Rattle.macho_image.specs.Records.{Img}
-use Rattle.macho_image.specs.Macho.{image_of}
 use Rattle.macho_image.specs.Universal.{slice_break}
-use Rattle.macho_image.specs.Breaks.{image_break, image_at, image_unless}
+use Rattle.macho_image.specs.Breaks.{image_break}
 use Rattle.dsc_base.specs.Refusals.{IsRefusal}
-use Rattle.load_model.specs.Phases.{dylib_of, shape_break}
-
--- an image is read exactly where no rule is broken, and then it is the image that the bytes spell
-pub image_found : (form : Form) (b : List ℕ) (h : ℕ) (i : Img) → image_at form b h ≡ Some i → (image_break form b h ≡ None) × (i ≡ image_of b h)
-image_found form b h i found =
-    elim (image_break form b h) as (λ o. image_unless o (image_of b h) ≡ Some i → (o ≡ None) × (i ≡ image_of b h)) [
-      | None ↦ λ is. (refl, cc)
-      | Some s ↦ λ is. absurd (cc)
-    ] found
+use Rattle.macho_image.specs.Files.{dylib_of, shape_break}
 
 -- ---- the rules of a file's slice, and then those of the dylib there
 
@@ -39,10 +28,6 @@ shape_image file dylib fault picked is found =
 
 pub shape_none : (file : List ℕ) (dylib : List ℕ) → slice_break file ≡ None → dylib ≡ dylib_of file → image_break Standalone dylib 0 ≡ None → shape_break file ≡ None
 shape_none file dylib picked is unbroken = shape_is file picked ∙ (sym (ap (λ (b : List ℕ). image_break Standalone b 0) is) ∙ unbroken)
-
--- a fault that is a broken rule, where that is the one that is there
-pub refusal_is : (found : Option Site) (fault : Fault) (site : Site) → fault ≡ Broken site → found ≡ Some site → IsRefusal found fault
-refusal_is found fault site is there = subst (λ (f : Fault). IsRefusal found f) (sym is) there
 
 -- an error that a `?` hands on
 pub handed_on : {X : Type 0} (found : Option Site) (r : Result X Fault) (fault : Fault) → IsErrAnd r (λ g. g ≡ fault) → IsRefusal found fault → IfErr r (IsRefusal found)

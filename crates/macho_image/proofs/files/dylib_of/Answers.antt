@@ -1,6 +1,6 @@
 use Rattle.std.proofs.Common.{sym, ◌∙◌}
-use Rattle.load_model.proofs.SliceLaws.{slice_inside, dylib_is}
-use Rattle.load_model.proofs.accept.dylib_of.Goals as goal
+use Rattle.macho_image.proofs.SliceLaws.{slice_inside, dylib_is}
+use Rattle.macho_image.proofs.files.dylib_of.Goals as goal
 
 pub part_of-requires : goal.part_of-requires
 part_of-requires c = slice_inside c.args.file.now c.in-Ok.slice c.in-Ok.ensures.slice

@@ -5,7 +5,7 @@ use Rattle.std.proofs.lemmas.Bool.Decides.{nat_tests}
 use Rattle.std.proofs.lemmas.List.Elements.{All-take, All-drop, All-nil}
 use Rattle.dsc_base.specs.declared.fault.Span.{Span}
 use Rattle.macho_image.specs.Universal.{big_at, archs_in, is_x86_64, part_of, picked, slice_of, bytes_of}
-use Rattle.load_model.specs.Phases.{dylib_of}
+use Rattle.macho_image.specs.Files.{dylib_of}
 
 either : (b : Bool) (x y : Option Span) (s : Span) → (if b then x else y) ≡ Some s → (x ≡ Some s) ⊎ (y ≡ Some s)
 either true x y s is = inl is

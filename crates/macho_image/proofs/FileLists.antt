@@ -1,5 +1,5 @@
 -- Files that are accepted one by one.
-use Rattle.std.proofs.Common.{◌≡◌, ◌≤◌, ◌<◌, ℕ, ◌+◌, Option, None, List, [], ◌∷◌, ◌++◌, Vec, Global, take, drop, length, get_or, refl, sym, ap, ap₂, ◌∙◌, subst}
+use Rattle.std.proofs.Common.{◌≡◌, ◌≤◌, ◌<◌, ℕ, ◌+◌, Option, None, List, [], ◌∷◌, ◌++◌, Vec, Global, take, drop, length, get_or, sym, ap, ap₂, ◌∙◌, subst}
 use Rattle.std.specs.Option.{option_or, option_map}
 use Rattle.std.proofs.lemmas.List.{map-append, take_more, drop_more, drop_all, take_all}
 use Rattle.dsc_base.specs.declared.fault.Site.{Site}
@@ -10,7 +10,7 @@ use Rattle.dsc_base.specs.declared.fault.SetFault.{SetFault}
 use Rattle.macho_image.specs.Records.{Img}
 use Rattle.macho_image.specs.Macho.{image_of}
 use Rattle.dsc_base.specs.Refusals.{in_image, IsRefusal, in_set, IsSetRefusal, in_each}
-use Rattle.load_model.specs.Phases.{dylib_of, shape_break, images_of, contents}
+use Rattle.macho_image.specs.Files.{dylib_of, shape_break, images_of, contents}
 
 -- so many files are accepted, and these are their images
 pub record AreAccepted (files : List (Vec ℕ Global)) (images : List Img) (n : ℕ) : Type 0 where
@@ -24,9 +24,6 @@ step : (files : List (Vec ℕ Global)) (images : List Img) (n : ℕ) (f : Vec �
 unfolding in_each
 step files images n f kept lt at =
     sym (ap (λ (fs : List (Vec ℕ Global)). in_each shape_break n (contents fs)) (drop_more files n f lt ∙ ap (λ (g : Vec ℕ Global). g ∷ drop (n + 1) files) (sym at))) ∙ kept.rest
-
-pub accepted_start : (files : List (Vec ℕ Global)) (images : List Img) → images ≡ [] → AreAccepted files images 0
-accepted_start files images none = record { images_are = none; rest = refl }
 
 pub accepted_more : (files : List (Vec ℕ Global)) (images images' : List Img) (n : ℕ) (f : Vec ℕ Global) (bytes : List ℕ) (image : Img) → AreAccepted files images n → n < length files → f ≡ get_or files n f → bytes ≡ f.items
     → shape_break bytes ≡ None → image ≡ image_of (dylib_of bytes) 0 → images' ≡ images ++ image ∷ [] → AreAccepted files images' (n + 1)

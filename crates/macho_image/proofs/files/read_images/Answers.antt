@@ -1,6 +1,6 @@
 use Rattle.std.proofs.Common.{arith}
-use Rattle.load_model.proofs.SetLaws.{accepted_more, accepted_images, accepted_none, refused}
-use Rattle.load_model.proofs.accept.accept_all.Goals as goal
+use Rattle.macho_image.proofs.FileLists.{accepted_more, accepted_images, accepted_none, refused}
+use Rattle.macho_image.proofs.files.read_images.Goals as goal
 
 pub loop-number-preserved : goal.loop-number-preserved
 loop-number-preserved c =
