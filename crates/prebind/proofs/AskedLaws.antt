@@ -1,13 +1,12 @@
 -- The steps of a resolution that ends in the first search order.
-use Rattle.std.proofs.Common.{◌≡◌, ◌+◌, ◌<◌, ℕ, suc, List, [], ◌∷◌, length, map, get_or, refl, sym, ap, ◌∙◌, subst, arith, Option, Some, None}
+use Rattle.std.proofs.Common.{◌≡◌, ◌+◌, ℕ, suc, List, [], ◌∷◌, length, map, get_or, refl, sym, ap, ◌∙◌, arith, Option, Some, None}
 use Rattle.std.proofs.lemmas.List.Sums.{sum_by-cons}
 use Rattle.bind_ops.specs.Records.{BoundWord}
 use Rattle.export_trie.specs.declared.export.Export.{Export}
 use Rattle.export_trie.specs.declared.export.Target.{Target}
 use Rattle.export_trie.specs.declared.export.Target.TheVariants.{Offset}
 use Rattle.export_trie.specs.Finding.{target_named}
-use Rattle.dep_closure.specs.declared.dep.Dep.TheVariants as deps
-use Rattle.dep_closure.specs.Linked.{Linked, dependency_at}
+use Rattle.dep_closure.specs.Linked.{Linked}
 use Rattle.prebind.specs.declared.resolved.Resolved.{Resolved}
 use Rattle.prebind.specs.declared.resolved.Resolved.TheVariants.{Absent}
 use Rattle.prebind.specs.Sets.{ImageSet}

@@ -1,19 +1,15 @@
 -- The images that are asked for the names of an image's binds, and its placed words as a whole.
-use Rattle.std.proofs.Common.{◌≡◌, ◌<◌, ◌+◌, ℕ, suc, List, ◌∷◌, [], ◌++◌, take, drop, length, map, get_or, sym, ap, ap₂, refl, subst, ◌∙◌, arith}
+use Rattle.std.proofs.Common.{◌≡◌, ◌<◌, ◌+◌, ℕ, suc, List, ◌∷◌, drop, length, get_or, sym, ap, refl, subst, ◌∙◌, arith}
 use Rattle.std.specs.Prelude.{option_map}
 use Rattle.std.proofs.Math.Seq.{drop-cons}
-use Rattle.std.proofs.lemmas.List.{take_more, map_push}
 use Rattle.std.proofs.lemmas.List.Sums.{sum_by-cons}
 use Rattle.std.proofs.lemmas.Option.{get_or_from_slice_get}
-use Rattle.dsc_base.specs.declared.fault.Site.{Site}
-use Rattle.dsc_base.specs.declared.fault.Fault.{Fault}
-use Rattle.dsc_base.specs.Refusals.{in_image, in_set, IsRefusal, IsSetRefusal}
-use Rattle.macho_image.specs.Records.{Img}
+use Rattle.dsc_base.specs.Refusals.{in_image}
 use Rattle.macho_image.specs.Segments.{segments_at}
 use Rattle.bind_ops.specs.Records.{BoundWord}
 use Rattle.prebind.specs.declared.resolved.PlacedWord.{PlacedWord}
-use Rattle.prebind.specs.Sets.{StreamLists, ImageSet, IsSoundSet}
-use Rattle.prebind.specs.Words.{placed_bind, AreOrdered, ArePlaced, streams_at, pointers_of}
+use Rattle.prebind.specs.Sets.{ImageSet, IsSoundSet}
+use Rattle.prebind.specs.Words.{AreOrdered, ArePlaced, streams_at, pointers_of}
 use Rattle.prebind.specs.WordRules.{word_fault, symbol_break, linkedit_pointer_break, stray_pointer_break, recorded_pointer_break, place_break}
 use Rattle.prebind.specs.Probes.{probes, bind_probes}
 use Rattle.prebind.proofs.PlaceLaws.{words_here, placed_here}

@@ -1,5 +1,5 @@
 -- By frames a resolution takes the steps that it takes by segments.
-use Rattle.std.proofs.Common.{◌≡◌, ◌+◌, ◌-◌, ℕ, List, [], ◌∷◌, map, refl, sym, ap, ◌∙◌, if◌then◌else◌, Option, Some, None, option_map}
+use Rattle.std.proofs.Common.{◌≡◌, ◌+◌, ◌-◌, ℕ, List, [], ◌∷◌, map, refl, ap, ◌∙◌, if◌then◌else◌, Option, Some, None, option_map}
 use Rattle.std.specs.Prelude.{slice_get}
 use Rattle.std.proofs.lemmas.Option.{slice_get-map}
 use Rattle.macho_image.specs.Records.{Seg, Img}
@@ -8,7 +8,7 @@ use Rattle.macho_image.specs.Segments.{contains, inside_from, inside, header_add
 use Rattle.export_trie.specs.declared.export.Target.{Target}
 use Rattle.export_trie.specs.declared.export.Target.TheVariants.{Offset, Absolute, Reexport}
 use Rattle.prebind.specs.Places.{address_of_export}
-use Rattle.prebind.specs.Resolves.{Ends, place_of, target_step, export_place, found_step}
+use Rattle.prebind.specs.Resolves.{Ends, place_of, target_step, found_step}
 use Rattle.prebind.specs.Indexed.{span_of, FrameOf, frame_of}
 use Rattle.prebind.specs.Framed.{within_from, within, framed_step, frame_in, framed_found}
 

@@ -1,5 +1,5 @@
 -- An image by its segments other than `__LINKEDIT`: its words lead where those of the whole image do.
-use Rattle.std.proofs.Common.{◌≡◌, ◌<◌, ◌≤◌, ◌+◌, ◌^◌, ℕ, Bool, true, List, [], ◌∷◌, ◌++◌, length, map, get_or, refl, sym, ap, subst, ◌∙◌, arith, inl, inr, Option, Some, None, length-append}
+use Rattle.std.proofs.Common.{◌≡◌, ◌<◌, ◌+◌, ◌^◌, ℕ, Bool, true, List, [], ◌∷◌, ◌++◌, length, map, get_or, refl, sym, ap, subst, ◌∙◌, arith, inl, inr, Option, Some, None, length-append}
 use Rattle.std.specs.Prelude.{slice_get}
 use Rattle.std.specs.List.{All, AllByRecursion}
 use Rattle.std.specs.Option.{option_or}
@@ -28,7 +28,7 @@ use Rattle.prebind.specs.WordRules.{bind_fault_from, rebase_fault, word_fault}
 use Rattle.prebind.specs.Indexed.{span_of, FrameOf, frame_of, WasRead, IndexOf, AreOf}
 use Rattle.prebind.specs.Bodies.{linkedit_at, whole_of, body_of, AreOfImage}
 use Rattle.prebind.proofs.BodyLaws.{get_last, get_other, value_in_body}
-use Rattle.prebind.proofs.LinkeditLaws.{EndsInLinkedit, ends_in_linkedit}
+use Rattle.prebind.proofs.LinkeditLaws.{ends_in_linkedit}
 use Rattle.prebind.proofs.OutlineLaws.{HaveSameOutline, HaveSameValues, same_fault, same_rebased}
 
 -- an element of a list by its number

@@ -1,10 +1,9 @@
 -- What the links and an index of a set tell of it.
-use Rattle.std.proofs.Common.{◌≡◌, ◌<◌, ◌^◌, ◌+◌, ℕ, List, [], ◌∷◌, ◌++◌, length, map, take, get_or, refl, sym, ap, ap₂, subst, ◌∙◌, arith, Option}
+use Rattle.std.proofs.Common.{◌≡◌, ◌<◌, ◌^◌, ◌+◌, ℕ, List, [], ◌∷◌, length, map, get_or, sym, ap, subst, ◌∙◌, arith, Option}
 use Rattle.std.specs.List.{All}
-use Rattle.std.proofs.lemmas.List.{length-map, take_more, map_push}
-use Rattle.std.proofs.lemmas.List.Elements.{All-nil, All-cons, All-head, All-tail, All-more}
-use Rattle.dsc_base.specs.declared.fault.Span.{Span}
-use Rattle.macho_image.specs.Records.{Seg, Img}
+use Rattle.std.proofs.lemmas.List.{length-map}
+use Rattle.std.proofs.lemmas.List.Elements.{All-nil, All-cons, All-head, All-tail}
+use Rattle.macho_image.specs.Records.{Img}
 use Rattle.macho_image.proofs.SoundSegments.{few_segments}
 use Rattle.export_trie.specs.Exports.{exports_of}
 use Rattle.export_trie.specs.declared.export.Export.{Export}
@@ -14,7 +13,7 @@ use Rattle.dep_closure.specs.declared.dep.Dep.TheVariants as deps
 use Rattle.dep_closure.specs.Linked.{Linked, dependency_at, AreLinks}
 use Rattle.prebind.specs.Sets.{StreamLists, ImageSet}
 use Rattle.prebind.specs.Places.{exports_in}
-use Rattle.prebind.specs.Resolves.{Step, first_exporting, found_step, dependency_step, step}
+use Rattle.prebind.specs.Resolves.{Step, first_exporting, dependency_step, step}
 use Rattle.prebind.specs.Probes.{searched, dependency_probes, step_probes}
 use Rattle.prebind.specs.Indexed.{span_of, FrameOf, frame_of, WasRead, IndexOf, AreOf}
 use Rattle.prebind.specs.Framed.{framed_found}

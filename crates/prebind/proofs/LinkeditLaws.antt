@@ -1,5 +1,5 @@
 -- Of an image that was read, the last segment is `__LINKEDIT`: no other has this name, and it is for reading alone.
-use Rattle.std.proofs.Common.{◌≡◌, ◌≤◌, ◌+◌, ◌-◌, ℕ, Bool, true, false, not, ◌&&◌, ◌||◌, List, [], ◌∷◌, ◌++◌, length, length-append, map, take, filter, refl, sym, ap, ap₂, ◌∙◌, arith, if◌then◌else◌, nat_lt, nat_le, nat_eq, Option, Some, None, option_map}
+use Rattle.std.proofs.Common.{◌≡◌, ◌≤◌, ◌+◌, ◌-◌, ℕ, Bool, true, false, not, ◌&&◌, ◌||◌, List, [], ◌∷◌, ◌++◌, length, length-append, map, take, refl, sym, ap, ap₂, ◌∙◌, arith, if◌then◌else◌, nat_lt, nat_le, nat_eq, Option, Some, None}
 use Rattle.std.specs.Prelude.{codes}
 use Rattle.std.specs.Cmp.Lexicographic.{same_text}
 use Rattle.std.proofs.Math.Seq.{take-append_seam}
@@ -7,7 +7,7 @@ use Rattle.std.proofs.lemmas.Bool.Decides.{nat_tests}
 use Rattle.std.proofs.lemmas.Bool.{cond-true, cond-false}
 use Rattle.macho_image.specs.Records.{Seg, Img, SegmentLoad}
 use Rattle.macho_image.specs.Macho.{header_size, loads_of, segment_loads, segment_with}
-use Rattle.macho_image.specs.Rules.{is_well_shaped, first_crossing, first_segment, is_linkedit_segment, is_linkedit_name, is_linkedit, is_text, is_good_text, is_good_linkedit, has_reserved_name, misplaced_behind, misplaced, breaks_segment_shape}
+use Rattle.macho_image.specs.Rules.{is_well_shaped, first_crossing, first_segment, is_linkedit_segment, is_linkedit_name, is_linkedit, is_text, is_good_text, is_good_linkedit, has_reserved_name, misplaced_behind, misplaced}
 use Rattle.dsc_base.specs.Refusals.{least}
 use Rattle.macho_image.specs.Breaks.{unread, IsSound}
 use Rattle.macho_image.proofs.SoundSegments.{segment_shape}

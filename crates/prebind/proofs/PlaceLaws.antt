@@ -1,5 +1,5 @@
 -- The words of an image of a sound set, by its file and its streams.
-use Rattle.std.proofs.Common.{◌≡◌, ◌<◌, ℕ, List, length, get_or, refl, sym, ap, ap₂, ◌∙◌, Option, None, Bool, map, ◌++◌, subst}
+use Rattle.std.proofs.Common.{◌≡◌, ◌<◌, ℕ, List, length, get_or, refl, sym, ap, ap₂, Option, Bool, subst}
 use Rattle.std.specs.Prelude.{option_map}
 use Rattle.std.proofs.lemmas.Option.{slice_get_read}
 use Rattle.dsc_base.specs.declared.fault.Site.{Site}
@@ -12,13 +12,12 @@ use Rattle.prebind.specs.Sets.{StreamLists, ImageSet, IsSoundSet}
 use Rattle.macho_image.specs.Segments.{segments_in, segments_at}
 use Rattle.prebind.proofs.SoundLaws.{sound_streams}
 use Rattle.prebind.proofs.DistinctLaws.{words_rise}
-use Rattle.std.specs.Option.{option_or}
 use Rattle.bind_ops.specs.Records.{BoundWord}
 use Rattle.split_info.specs.declared.reference.Reference.{Reference}
 use Rattle.macho_image.specs.declared.place.Location.{Location}
-use Rattle.prebind.specs.Words.{is_bound, placed_bind, rebased_words, AreOrdered, ArePlaced, streams_in, streams_at, all_pointers, pointers_of}
+use Rattle.prebind.specs.Words.{is_bound, rebased_words, AreOrdered, ArePlaced, streams_in, streams_at, all_pointers, pointers_of}
 use Rattle.prebind.specs.Targets.{pointer_at}
-use Rattle.prebind.specs.WordRules.{bind_fault_from, rebase_fault, word_fault, symbol_break, linkedit_pointer_break, stray_pointer_break, recorded_pointer_break, place_break}
+use Rattle.prebind.specs.WordRules.{rebase_fault}
 
 segments_here : (set : ImageSet) (k : ℕ) (image : Img) → k < length set.images → image ≡ get_or set.images k image → segments_at set.images k ≡ image.segments
 segments_here set k image lt is = ap segments_in (slice_get_read set.images (length set.images) k image refl lt is)

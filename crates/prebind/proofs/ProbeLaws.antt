@@ -1,6 +1,6 @@
 -- A resolution, step by step, and the images that it asks for a name.
-use Rattle.std.proofs.Common.{◌≡◌, ◌<◌, ◌≤◌, ◌+◌, ℕ, zero, suc, Bool, true, false, List, [], ◌∷◌, ◌++◌, length, refl, sym, ap, subst, ◌∙◌, arith, if◌then◌else◌, Option, Some, None, not}
-use Rattle.std.proofs.lemmas.Bool.{cond-true, cond-false}
+use Rattle.std.proofs.Common.{◌≡◌, ◌<◌, ◌≤◌, ◌+◌, ℕ, zero, suc, Bool, true, false, List, [], ◌∷◌, ◌++◌, length, refl, sym, ap, subst, ◌∙◌, arith, not}
+use Rattle.std.proofs.lemmas.Bool.{cond-false}
 use Rattle.prebind.specs.declared.resolved.Resolved.{Resolved}
 use Rattle.prebind.specs.declared.resolved.Resolved.TheVariants.{Loop}
 use Rattle.prebind.specs.Sets.{ImageSet}

@@ -1,4 +1,4 @@
-use Rattle.std.proofs.Common.{◌≡◌, ◌<◌, List, Option, length, get_or, sym, ap, subst, ◌∙◌, arith}
+use Rattle.std.proofs.Common.{Option, length, get_or, sym, ap, subst, ◌∙◌, arith}
 use Rattle.dsc_base.specs.declared.fault.Site.{Site}
 use Rattle.dsc_base.specs.Refusals.{IsRefusal}
 use Rattle.prebind.specs.Indexed.{FrameOf, IndexOf}

@@ -1,4 +1,4 @@
-use Rattle.std.proofs.Common.{◌+◌, arith}
+use Rattle.std.proofs.Common.{arith}
 use Rattle.prebind.proofs.WordLaws.{unbroken_more}
 use Rattle.prebind.specs.Words.{placed_bind}
 use Rattle.prebind.proofs.ListLaws.{mapped_more}

@@ -1,4 +1,4 @@
-use Rattle.std.proofs.Common.{◌+◌, ◌<◌, List, length, subst, sym, arith}
+use Rattle.std.proofs.Common.{◌+◌, ◌<◌, List, subst, sym, arith}
 use Rattle.export_trie.specs.declared.export.Export.{Export}
 use Rattle.prebind.specs.Resolves.{Pair, resolves}
 use Rattle.prebind.specs.Probes.{probes}
