@@ -6,6 +6,7 @@ pub mod DistinctLaws
 pub mod FrameLaws
 pub mod ImageLaws
 pub mod IndexLaws
+pub mod KeptLaws
 pub mod LinkeditLaws
 pub mod ListLaws
 pub mod MetLaws

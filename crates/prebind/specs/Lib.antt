@@ -3,6 +3,7 @@ pub mod Asked
 pub mod Bodies
 pub mod Framed
 pub mod Indexed
+pub mod Kept
 pub mod Met
 pub mod Numbers
 pub mod Placed

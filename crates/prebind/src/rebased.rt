@@ -1,15 +1,16 @@
 // Rebases that aren't bound: each has an address of its own image.
-ghost use Rattle.std.specs.Prelude.{◌≡◌, ◌∷◌, ◌++◌, [], ℕ, not, ◌&&◌, nat_eq, map, filter, position, slice_get, IfOk, OnOk};
+ghost use Rattle.std.specs.Prelude.{◌≡◌, ◌∷◌, ◌++◌, [], ℕ, Some, None, true, not, ◌&&◌, nat_eq, map, filter, position, slice_get, IfOk, OnOk};
 ghost use Rattle.indexmap.specs.IndexMap.{get};
 ghost use Rattle.indexmap.specs.IndexSet.{contains};
 ghost use Rattle.dsc_base.specs.Refusals.{broken, first_break, Refuses};
 ghost use Rattle.macho_image.specs.Segments.{value_of, inside};
 ghost use Rattle.prebind.specs.WordRules as rules;
-ghost use Rattle.prebind.specs.Targets as targets;
+ghost use Rattle.prebind.specs.Kept as steps;
+ghost use Rattle.prebind.specs.Words as spec;
 
-use crate::WordTarget;
 use crate::body::Body;
-use dsc_base::{Fault, Rule, Site};
+use crate::{PlacedWord, WordTarget};
+use dsc_base::{Fault, NoMemory, Rule, Site};
 use indexmap::{IndexMap, IndexSet};
 use macho_image::Location;
 
@@ -44,46 +45,61 @@ fn points_out_of_range(segments: &Body<'_, '_>, value: u64, recorded: Option<u32
 }
 
 // The place of a value in the segment that contains it, unless that is `__LINKEDIT`.
-fn value_place(segments: &Body<'_, '_>, image: u32, value: u64) -> WordTarget
-    ensures { result ≡ targets.value_place image segments.now value (inside segments.now value) }
+fn value_place(segments: &Body<'_, '_>, image: u32, value: u64) -> Option<WordTarget>
+    ensures { result ≡ steps.kept_target image segments.now value None }
 {
     match segments.find(value) {
-        Some(place) if !segments.is_linkedit_at(place.segment) => WordTarget::Place {
+        Some(place) if !segments.is_linkedit_at(place.segment) => Some(WordTarget::Place {
             image,
             segment: place.segment,
             distance: place.distance,
-        },
-        _ => WordTarget::Constant(value),
+        }),
+        _ => None,
     }
 }
 
-/// Where a rebase of image number `image` leads that has this value.
+// The place of a value in the segment that is recorded for it, unless it lies out of that.
 #[tactic(auto, unfolding(macho_image::specs::Places::above))]
-pub(crate) fn target_of(
+fn recorded_place(
+    segments: &Body<'_, '_>,
+    image: u32,
+    segment: u32,
+    value: u64,
+) -> Option<WordTarget>
+    ensures { result ≡ steps.kept_target image segments.now value (Some segment) }
+{
+    if segments.is_out_of(segment, value) {
+        return None;
+    }
+    Some(WordTarget::Place {
+        image,
+        segment,
+        distance: value.wrapping_sub(segments.start_of(segment)),
+    })
+}
+
+// Where a rebase of image number `image` leads that has this value, unless it breaks a rule.
+fn target_of(
     segments: &Body<'_, '_>,
     image: u32,
     value: u64,
     recorded: Option<u32>,
-) -> WordTarget
-    ensures { result ≡ targets.rebase_target image segments.now value recorded }
+) -> Option<WordTarget>
+    ensures { result ≡ steps.kept_target image segments.now value recorded }
 {
     match recorded {
-        Some(segment) => WordTarget::Place {
-            image,
-            segment,
-            distance: value.wrapping_sub(segments.start_of(segment)),
-        },
+        Some(segment) => recorded_place(segments, image, segment, value),
         None => value_place(segments, image, value),
     }
 }
 
-pub(crate) fn is_free(bound: &IndexSet<u64>, word: &Location) -> bool
+fn is_free(bound: &IndexSet<u64>, word: &Location) -> bool
     ensures { result ≡ not (contains nat_eq bound.now word.now.address) }
 {
     !bound.contains(&word.address)
 }
 
-pub(crate) fn recorded_at(pointers: &IndexMap<u64, u32>, word: &Location) -> Option<u32>
+fn recorded_at(pointers: &IndexMap<u64, u32>, word: &Location) -> Option<u32>
     ensures { result ≡ get nat_eq pointers.now word.now.address }
 {
     pointers.get(&word.address).copied()
@@ -140,9 +156,9 @@ fn refused(rule: Rule, index: usize) -> Fault
     })
 }
 
-/// Refuses the first of the rules that rebases break: all that lead into `__LINKEDIT` go before those that
-/// lead into no segment, and these before recorded ones that leave their segment.
-pub(crate) fn check_rebases(
+// Refuses the first of the rules that rebases break: all that lead into `__LINKEDIT` go before those that
+// lead into no segment, and these before recorded ones that leave their segment.
+fn check_rebases(
     segments: &Body<'_, '_>,
     bound: &IndexSet<u64>,
     pointers: &IndexMap<u64, u32>,
@@ -160,4 +176,48 @@ pub(crate) fn check_rebases(
         Some(at) => Err(refused(Rule::PointerOutOfRange, at)),
         None => Ok(()),
     }
+}
+
+// Appends the rebases that aren't bound, each with where it leads, and tells whether all keep the rules. It
+// looks each of them up once, and ends at one that breaks a rule.
+fn place_rebases(
+    segments: &Body<'_, '_>,
+    bound: &IndexSet<u64>,
+    pointers: &IndexMap<u64, u32>,
+    image: u32,
+    rebases: &[Location],
+    words: &mut Vec<PlacedWord>,
+) -> Result<bool, NoMemory>
+    ensures kept { IfOk result (λ kept. kept ≡ not (steps.any_breaks segments.now (contains nat_eq bound.now) (get nat_eq pointers.now) rebases.now)) }
+    ensures placed { IfOk result (λ kept. kept ≡ true → words.new.items ≡ words.old.items ++ spec.rebased_words image segments.now (contains nat_eq bound.now) (get nat_eq pointers.now) rebases.now) }
+{
+    for word in rebases {
+        if is_free(bound, word) {
+            let value = segments.value_at(word);
+            match target_of(segments, image, value, recorded_at(pointers, word)) {
+                Some(target) => words.push(PlacedWord { at: *word, target })?,
+                None => return Ok(false),
+            }
+        }
+    }
+    Ok(true)
+}
+
+/// Appends the rebases that aren't bound, each with where it leads, or refuses the first rule that they break.
+/// They are looked up again, rule by rule, only where one is broken.
+pub(crate) fn push_rebases(
+    segments: &Body<'_, '_>,
+    bound: &IndexSet<u64>,
+    pointers: &IndexMap<u64, u32>,
+    image: u32,
+    rebases: &[Location],
+    words: &mut Vec<PlacedWord>,
+) -> Result<(), Fault>
+    ensures placed { OnOk result (words.new.items ≡ words.old.items ++ spec.rebased_words image segments.now (contains nat_eq bound.now) (get nat_eq pointers.now) rebases.now) }
+    ensures cause { Refuses (rules.rebase_fault segments.now (contains nat_eq bound.now) (get nat_eq pointers.now) rebases.now) result }
+{
+    if place_rebases(segments, bound, pointers, image, rebases, words)? {
+        return Ok(());
+    }
+    check_rebases(segments, bound, pointers, rebases)
 }

@@ -10,11 +10,10 @@ ghost use Rattle.prebind.specs.Targets as targets;
 
 use crate::body::Body;
 use crate::lookups::{bound_addresses, recorded_pointers};
-use crate::rebased::{check_rebases, is_free, recorded_at, target_of};
+use crate::rebased::push_rebases;
 use crate::{PlacedWord, Resolved, WordTarget};
 use bind_ops::Bind;
 use dsc_base::{Fault, NoMemory, Rule, Site};
-use indexmap::{IndexMap, IndexSet};
 use macho_image::Location;
 use split_info::Reference;
 use std::alloc::Global;
@@ -82,27 +81,6 @@ pub(crate) fn place_resolved(
     }
 }
 
-// The rebases that aren't bound, behind the words that are placed before them.
-fn place_rebases(
-    segments: &Body<'_, '_>,
-    bound: &IndexSet<u64>,
-    pointers: &IndexMap<u64, u32>,
-    image: u32,
-    rebases: &[Location],
-    words: &mut Vec<PlacedWord>,
-) -> Result<(), NoMemory>
-    ensures { OnOk result (words.new.items ≡ words.old.items ++ spec.rebased_words image segments.now (contains nat_eq bound.now) (get nat_eq pointers.now) rebases.now) }
-{
-    for word in rebases {
-        if is_free(bound, word) {
-            let value = segments.value_at(word);
-            let target = target_of(segments, image, value, recorded_at(pointers, word));
-            words.push(PlacedWord { at: *word, target })?;
-        }
-    }
-    Ok(())
-}
-
 // Puts words in the order of their addresses.
 fn sort_words(words: &mut Vec<PlacedWord>) -> Result<(), NoMemory>
     ensures { OnOk result (spec.AreOrdered words.old.items words.new.items) }
@@ -128,11 +106,10 @@ pub(crate) fn with_rebases(
     let mut words = placed;
     let bound = bound_addresses(alloc, binds)?;
     let pointers = recorded_pointers(alloc, references)?;
-    match check_rebases(segments, &bound, &pointers, rebases) {
+    match push_rebases(segments, &bound, &pointers, image, rebases, &mut words) {
         Ok(()) => {}
         Err(fault) => return Err(fault),
     }
-    place_rebases(segments, &bound, &pointers, image, rebases, &mut words)?;
     sort_words(&mut words)?;
     Ok(words)
 }

@@ -12,12 +12,12 @@ pub returns-in-Err-clause-cause : goal.returns-in-Err-clause-cause
 returns-in-Err-clause-cause c =
     subst (λ (o : Option Site). IsRefusal o c.in-Err.fault)
     (looked_fault c.args.segments.now (contains nat_eq c.in_ok-bound.bound) (get nat_eq c.in_ok-pointers.pointers) c.args.binds.now c.args.references.now c.args.rebases.now c.in_ok-bound.ensures c.in_ok-pointers.ensures)
-    c.in-Err.ensures
+    c.in-Err.ensures.cause
 
 pub returns-clause-found : goal.returns-clause-found
 returns-clause-found c =
     subst (λ (ws : List PlacedWord). AreOrdered ws c.sort_words.new.words.items)
-    (c.in_ok-place_rebases.ensures
+    (c.in-Ok.ensures.placed
     ∙ ap (λ (ws : List PlacedWord). c.args.placed.items ++ ws)
     (looked_words c.args.image c.args.segments.now (contains nat_eq c.in_ok-bound.bound) (get nat_eq c.in_ok-pointers.pointers) c.args.binds.now c.args.references.now c.args.rebases.now c.in_ok-bound.ensures c.in_ok-pointers.ensures))
     c.in_ok-sort_words.ensures
@@ -25,4 +25,4 @@ returns-clause-found c =
 pub returns-clause-cause : goal.returns-clause-cause
 returns-clause-cause c =
     sym (looked_fault c.args.segments.now (contains nat_eq c.in_ok-bound.bound) (get nat_eq c.in_ok-pointers.pointers) c.args.binds.now c.args.references.now c.args.rebases.now c.in_ok-bound.ensures c.in_ok-pointers.ensures)
-    ∙ c.in-Ok.ensures
+    ∙ c.in-Ok.ensures.cause
