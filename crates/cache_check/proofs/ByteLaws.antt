@@ -1,5 +1,5 @@
 -- Bytes outside words, by the words and by the bytes that they have.
-use Rattle.std.proofs.Common.{◌≡◌, ℕ, ◌+◌, Bool, Option, Some, None, List, refl, sym, ap, ap₂, ◌∙◌, if◌then◌else◌}
+use Rattle.std.proofs.Common.{◌≡◌, ℕ, ◌+◌, Bool, Option, None, List, ap, ap₂, ◌∙◌, if◌then◌else◌}
 use Rattle.std.specs.List.{list_any}
 use Rattle.macho_image.specs.Records.{Img}
 use Rattle.prebind.specs.Numbers.{Starts}
@@ -8,7 +8,7 @@ use Rattle.prebind.specs.declared.resolved.PlacedWord.{PlacedWord}
 use Rattle.cache_check.specs.declared.extents.Extent.{Extent}
 use Rattle.cache_check.specs.declared.mismatch.Mismatch.{Mismatch}
 use Rattle.cache_check.specs.declared.verdict.Seen.TheVariants.{Number}
-use Rattle.cache_check.specs.Bytes.{Chains, Pair, covers, unlike, byte_in, byte_at, byte_mismatch, earlier, earliest, word_mismatch, stray_in, in_section, in_sections, first_mismatch}
+use Rattle.cache_check.specs.Bytes.{Chains, Pair, covers, unlike, byte_in, byte_at, byte_mismatch, earlier, earliest, word_mismatch, stray_in, in_sections, first_mismatch}
 use Rattle.cache_check.specs.Firsts.{first_below}
 use Rattle.cache_check.specs.Steps.Extents.{holds}
 use Rattle.cache_check.specs.Steps.Gaps.{found_byte, wanted_byte, held_byte, held_mismatch}

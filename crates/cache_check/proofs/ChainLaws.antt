@@ -1,11 +1,10 @@
 -- The words of a view rise, and lie low.
-use Rattle.std.proofs.Common.{◌≡◌, ◌≤◌, ◌<◌, ℕ, zero, suc, ◌+◌, ◌^◌, true, None, List, [], ◌∷◌, length, get_or, sym, ap, subst, arith}
+use Rattle.std.proofs.Common.{◌≡◌, ◌≤◌, ◌<◌, ℕ, zero, suc, ◌+◌, ◌^◌, List, [], ◌∷◌, length, get_or, ap, arith}
 use Rattle.dsc_base.specs.Region.{region_start}
 use Rattle.slide_chain.specs.Making.{AreWords, AllBelow}
 use Rattle.slide_chain.specs.declared.words.ChainWord.{ChainWord}
 use Rattle.cache_header.specs.declared.head.Mapping.{Mapping}
-use Rattle.cache_header.specs.Records.{Head}
-use Rattle.cache_check.specs.Shape.{data_mapping, mapping_finding}
+use Rattle.cache_check.specs.Shape.{data_mapping}
 use Rattle.cache_check.specs.Views.{View, IsSoundView, offsets_of}
 use Rattle.cache_check.proofs.ShapeLaws.{AreThree, three_are, count_three, data_is, whole_tests}
 

@@ -1,11 +1,10 @@
 -- Lists of exports: how many there are, and what stands in one that is moved.
-use Rattle.std.proofs.Common.{◌≡◌, ◌≤◌, ◌<◌, ℕ, ◌+◌, ◌^◌, Bool, true, false, ◌||◌, nat_lt, Option, Some, None, List, length, map, refl, sym, ap, ap₂, ◌∙◌, arith}
+use Rattle.std.proofs.Common.{◌≡◌, ◌≤◌, ◌<◌, ℕ, ◌^◌, Bool, true, false, ◌||◌, nat_lt, Option, Some, None, List, length, map, refl, sym, ap, ◌∙◌, arith}
 use Rattle.std.specs.Prelude.{slice_get, option_map}
-use Rattle.std.proofs.lemmas.Bool.{cond-true, cond-false, false≢true}
+use Rattle.std.proofs.lemmas.Bool.{cond-true, cond-false}
 use Rattle.std.proofs.lemmas.Bool.Decides.{nat_tests}
 use Rattle.std.proofs.lemmas.Option.{slice_get-map}
-use Rattle.dsc_base.specs.Limits.{record_limit, export_names_limit}
-use Rattle.macho_image.specs.Records.{Img}
+use Rattle.dsc_base.specs.Limits.{record_limit}
 use Rattle.export_trie.specs.declared.export.Export.{Export}
 use Rattle.export_trie.specs.Order.{too_many}
 use Rattle.cache_check.specs.Differences.{same_export, other_at, moved_export}

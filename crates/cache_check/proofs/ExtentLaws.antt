@@ -13,7 +13,7 @@ use Rattle.split_info.specs.declared.reference.RefKind.{RefKind}
 use Rattle.split_info.specs.declared.reference.RefKind.TheVariants.{Pointer64, Delta32, Delta64, ImageOff32}
 use Rattle.split_info.specs.References.{width_of}
 use Rattle.prebind.specs.declared.resolved.PlacedWord.{PlacedWord}
-use Rattle.prebind.specs.Words.{Word, pointer_word, reference_word, is_no_pointer}
+use Rattle.prebind.specs.Words.{pointer_word, reference_word, is_no_pointer}
 use Rattle.cache_check.specs.declared.extents.Extent.{Extent}
 use Rattle.cache_check.specs.Bytes.{covers}
 use Rattle.cache_check.specs.Steps.Extents.{pointer_extent, reference_extent, holds}

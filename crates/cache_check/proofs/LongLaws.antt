@@ -1,5 +1,5 @@
 -- How long the shape of an image is.
-use Rattle.std.proofs.Common.{◌≡◌, ◌≤◌, ◌<◌, ℕ, zero, suc, ◌+◌, ◌*◌, ◌^◌, Bool, true, false, not, nat_eq, nat_lt, Option, Some, None, List, [], ◌∷◌, ◌++◌, length, get_or, map, drop, refl, sym, ap, ◌∙◌, arith, inl, inr, length-append, length-drop, if◌then◌else◌}
+use Rattle.std.proofs.Common.{◌≡◌, ◌≤◌, ◌<◌, ℕ, zero, suc, ◌+◌, ◌*◌, ◌^◌, Bool, true, false, nat_eq, nat_lt, Some, None, List, [], ◌∷◌, ◌++◌, length, get_or, map, drop, refl, ap, arith, inl, inr, length-append, length-drop, if◌then◌else◌}
 use Rattle.std.specs.Prelude.{filter}
 use Rattle.std.specs.List.{flat_map, concat, AllByRecursion}
 use Rattle.std.proofs.lemmas.List.Sums.{length-filter, count_by-le-length}
@@ -9,8 +9,8 @@ use Rattle.dsc_base.specs.Numbers.{number_at}
 use Rattle.dsc_base.proofs.NumberLaws.{number_at-lt}
 use Rattle.macho_image.specs.Records.{Img, Seg, Load}
 use Rattle.macho_image.specs.Macho.{header_size, size_of, number_of, is_segment, commands_in, commands_of, loads_from, loads_of, segment_load, segment_loads, segment_with}
-use Rattle.macho_image.specs.Rules.{begins_whole, misshapen, breaks_command_shape, is_linkedit_segment}
-use Rattle.macho_image.specs.Breaks.{unread, form_of, IsSound}
+use Rattle.macho_image.specs.Rules.{misshapen, breaks_command_shape, is_linkedit_segment}
+use Rattle.macho_image.specs.Breaks.{unread, IsSound}
 use Rattle.macho_image.specs.declared.section.Section.{Section}
 use Rattle.macho_image.proofs.CommandLaws.{IsWholeCommand, shape_joins, AreCommands}
 use Rattle.macho_image.proofs.SectionLaws.{few_sections}

@@ -1,7 +1,7 @@
 -- The sections that are compared lie low.
-use Rattle.std.proofs.Common.{◌≡◌, ◌≤◌, ◌<◌, ℕ, ◌+◌, ◌-◌, ◌^◌, Bool, true, false, Option, Some, None, List, refl, sym, ap, ◌∙◌, arith, nat_eq, if◌then◌else◌}
+use Rattle.std.proofs.Common.{◌≡◌, ◌≤◌, ℕ, ◌+◌, ◌-◌, ◌^◌, Bool, true, false, Some, None, List, arith, nat_eq, if◌then◌else◌}
 use Rattle.std.specs.Prelude.{slice_get}
-use Rattle.macho_image.specs.Records.{Img, Seg}
+use Rattle.macho_image.specs.Records.{Img}
 use Rattle.macho_image.specs.Breaks.{IsSound}
 use Rattle.macho_image.specs.declared.section.Section.{Section}
 use Rattle.macho_image.specs.Places.{numbered_section}

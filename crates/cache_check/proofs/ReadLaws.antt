@@ -1,6 +1,7 @@
 -- Files that were read.
-use Rattle.std.proofs.Common.{◌≡◌, ◌≤◌, ℕ, None, List, Vec, Global, length, map, sym, ap, ◌∙◌, subst, arith}
-use Rattle.std.proofs.lemmas.List.{length-map}
+use Rattle.std.proofs.Common.{◌≡◌, ◌≤◌, ◌<◌, ℕ, ◌+◌, None, List, [], ◌∷◌, ◌++◌, Vec, Global, All, length, map, take, get_or, sym, ap, ◌∙◌, subst, arith}
+use Rattle.std.proofs.lemmas.List.{length-map, map-append, take_more}
+use Rattle.std.proofs.lemmas.List.Elements.{All-nil, All-cons, All-append}
 use Rattle.macho_image.specs.Records.{Img}
 use Rattle.macho_image.specs.Macho.{image_of}
 use Rattle.dep_closure.specs.Linked.{links_of}
@@ -24,3 +25,14 @@ are_read files f few images streams links words none =
       words = subst (λ (is : List Img). AreAllPlaced (image_set is) f.words.items) (sym images) words;
       tries = subst HaveTries (sym images) (file_tries (contents files) low none);
     }
+
+-- files of which one more is known to be bytes
+pub bytes_more : (files : List (Vec ℕ Global)) (n : ℕ) (f : Vec ℕ Global) (bytes : List ℕ) → All (λ g. All (λ b. b < 256) g) (contents (take n files)) → n < length files → f ≡ get_or files n f → bytes ≡ f.items → All (λ b. b < 256) bytes
+    → All (λ g. All (λ b. b < 256) g) (contents (take (n + 1) files))
+bytes_more files n f bytes before lt at is own =
+    let AreBytes : List ℕ → Type 0 = λ g. All (λ (b : ℕ). b < 256) g in
+    let items = λ (g : Vec ℕ Global). g.items in
+    let grown : contents (take (n + 1) files) ≡ contents (take n files) ++ bytes ∷ [] =
+    ap contents (take_more files n f lt ∙ ap (λ (g : Vec ℕ Global). take n files ++ g ∷ []) (sym at))
+    ∙ (map-append items (take n files) (f ∷ []) ∙ ap (λ (b : List ℕ). contents (take n files) ++ b ∷ []) (sym is)) in
+    subst (λ (fs : List (List ℕ)). All AreBytes fs) (sym grown) (All-append AreBytes (contents (take n files)) (bytes ∷ []) before (All-cons AreBytes bytes [] own (All-nil AreBytes)))

@@ -1,10 +1,8 @@
 -- The export tries of images in which nothing is wrong.
-use Rattle.std.proofs.Common.{◌≡◌, ◌≤◌, ℕ, zero, suc, ◌+◌, Bool, true, false, nat_eq, Option, Some, None, List, [], ◌∷◌, length, map, refl, sym, ap, ap₂, ◌∙◌, subst, arith, if◌then◌else◌}
+use Rattle.std.proofs.Common.{◌≡◌, ◌≤◌, ℕ, zero, suc, ◌+◌, Bool, true, false, nat_eq, Option, Some, None, List, [], ◌∷◌, length, sym, ap, ap₂, ◌∙◌, subst, arith, if◌then◌else◌}
 use Rattle.std.specs.Prelude.{slice_get, option_map}
 use Rattle.std.specs.Option.{option_or}
 use Rattle.dsc_base.specs.declared.fault.Finding.{Finding}
-use Rattle.dsc_base.specs.declared.fault.Site.{Site}
-use Rattle.dsc_base.specs.Refusals.{first_break}
 use Rattle.dsc_base.specs.RuleNames.{number_of}
 use Rattle.dsc_base.specs.declared.finding_kind.FindingKind.TheVariants.{StreamBroken}
 use Rattle.dsc_base.specs.declared.rule.Rule.TheVariants.{RebaseBadUleb}
@@ -27,7 +25,7 @@ use Rattle.cache_check.specs.Steps.Files.{HaveTries}
 use Rattle.cache_check.specs.Views.{View}
 use Rattle.cache_check.proofs.CachedLaws.{neither, no_rule}
 
-each_none : {X : Type 0} (finds : ℕ → X → Option Finding) (n j : ℕ) (xs : List X) (x : X) → each_of finds n xs ≡ None → slice_get xs j ≡ Some x → finds (n + j) x ≡ None
+pub each_none : {X : Type 0} (finds : ℕ → X → Option Finding) (n j : ℕ) (xs : List X) (x : X) → each_of finds n xs ≡ None → slice_get xs j ≡ Some x → finds (n + j) x ≡ None
 unfolding each_of
 each_none {X = X} finds n j [] x none got = absurd (cc)
 each_none {X = X} finds n zero (y ∷ ys) x none got =

@@ -1,21 +1,16 @@
 -- What comes of comparing, by its parts.
-use Rattle.std.proofs.Common.{◌≡◌, ◌≤◌, ℕ, Bool, true, false, nat_eq, Option, Some, None, List, [], ◌∷◌, length, map, refl, sym, ap, ap₂, ◌∙◌, if◌then◌else◌}
-use Rattle.std.specs.Prelude.{slice_get}
+use Rattle.std.proofs.Common.{◌≡◌, ℕ, Bool, true, false, nat_eq, Option, Some, None, List, [], ◌∷◌, length, refl, sym, ap, ap₂, ◌∙◌, if◌then◌else◌}
 use Rattle.std.specs.Option.{option_or}
 use Rattle.std.proofs.lemmas.Bool.{eqb-true}
 use Rattle.dsc_base.specs.declared.fault.Finding.{Finding}
-use Rattle.dsc_base.specs.declared.fault.Site.{Site}
 use Rattle.dsc_base.specs.Refusals.{first_break}
-use Rattle.dsc_base.specs.declared.finding_kind.FindingKind.TheVariants.{StreamBroken}
 use Rattle.macho_image.specs.Records.{Img}
-use Rattle.export_trie.specs.Order.{trie_break}
 use Rattle.prebind.specs.Sets.{ImageSet, image_set}
 use Rattle.load_model.specs.declared.set.FileSet.{FileSet}
 use Rattle.cache_header.specs.Records.{Entry}
 use Rattle.cache_check.specs.declared.verdict.Difference.{Difference}
 use Rattle.cache_check.specs.declared.verdict.Difference.TheVariants.{Images}
-use Rattle.cache_check.specs.declared.verdict.Verdict.{Verdict}
-use Rattle.cache_check.specs.declared.verdict.Verdict.TheVariants.{Agrees, Differs, Broken}
+use Rattle.cache_check.specs.declared.verdict.Verdict.TheVariants.{Agrees, Differs}
 use Rattle.cache_check.specs.Bytes.{Chains}
 use Rattle.cache_check.specs.Differences.{count_difference, path_difference}
 use Rattle.cache_check.specs.Firsts.{first_below}

@@ -4,11 +4,10 @@ use Rattle.std.specs.List.{list_any, fold}
 use Rattle.std.specs.Option.{option_and_then}
 use Rattle.macho_image.specs.Records.{Seg, Img}
 use Rattle.macho_image.specs.declared.section.Section.{Section}
-use Rattle.macho_image.specs.declared.place.Location.{Location}
 use Rattle.macho_image.specs.Places.{wrap, above, numbered_section}
-use Rattle.macho_image.specs.Segments.{header_address, segments_at, number_of, number_in}
+use Rattle.macho_image.specs.Segments.{header_address, number_of, number_in}
 use Rattle.split_info.specs.declared.reference.RefKind.{RefKind}
-use Rattle.split_info.specs.declared.reference.RefKind.TheVariants.{Pointer64, Delta32, Delta64, ImageOff32}
+use Rattle.split_info.specs.declared.reference.RefKind.TheVariants.{Pointer64, Delta32}
 use Rattle.split_info.specs.References.{width_of}
 use Rattle.slide_chain.specs.declared.words.ChainWord.{ChainWord}
 use Rattle.prebind.specs.declared.resolved.PlacedWord.{PlacedWord}
@@ -16,7 +15,7 @@ use Rattle.prebind.specs.declared.resolved.WordTarget.{WordTarget}
 use Rattle.prebind.specs.declared.resolved.WordTarget.TheVariants.{Place, Constant}
 use Rattle.prebind.specs.Sets.{ImageSet}
 use Rattle.prebind.specs.Numbers.{Starts, extended, counted_to}
-use Rattle.prebind.specs.Words.{Word, pointer_word, reference_word, is_no_pointer, sections_in, ordered_pointers, streams_at}
+use Rattle.prebind.specs.Words.{Word, pointer_word, reference_word, is_no_pointer, ordered_pointers, streams_at}
 use Rattle.cache_check.specs.declared.verdict.Seen.{Seen}
 use Rattle.cache_check.specs.declared.verdict.Seen.TheVariants.{Number, Address}
 use Rattle.cache_check.specs.declared.verdict.Difference.{Difference}

@@ -11,7 +11,6 @@ use Rattle.export_trie.specs.declared.export.Target.TheVariants.{Offset, Absolut
 use Rattle.export_trie.specs.Exports.{exports_of}
 use Rattle.prebind.specs.Numbers.{Starts}
 use Rattle.cache_header.specs.Records.{Entry}
-use Rattle.load_model.specs.Corresponds.{shape_of}
 use Rattle.cache_check.specs.declared.verdict.Difference.{Difference}
 use Rattle.cache_check.specs.declared.verdict.Difference.TheVariants.{Images, Path, Shape, Export}
 use Rattle.cache_check.specs.Firsts.{first_below}

@@ -1,3 +1,4 @@
+pub mod Agreeing
 pub mod Bytes
 pub mod Differences
 pub mod Firsts

@@ -5,6 +5,8 @@ ghost use Rattle.load_model.specs.Phases.{contents, files_break};
 ghost use Rattle.prebind.specs.Sets.{image_set};
 ghost use Rattle.prebind.specs.Steps.{set_of};
 ghost use Rattle.load_model.specs.Placed.{AreAllPlaced};
+ghost use Rattle.cache_check.specs.Agreeing.{CorrespondsEverywhere};
+ghost use Rattle.cache_check.specs.declared.verdict.Verdict.TheVariants.{Agrees};
 ghost use Rattle.cache_check.specs.Images.{images_finding};
 ghost use Rattle.cache_check.specs.Steps.Files.{AreRead, HaveTries, file_set};
 ghost use Rattle.cache_check.specs.Steps.Sides.{chain_view};
@@ -13,6 +15,7 @@ ghost use Rattle.cache_check.specs.Verdict as spec;
 use crate::chains::Chains;
 use crate::comparing::{compare_counts, compare_paths};
 use crate::differing::compare_images;
+use crate::plain::{are_bytes, files_are_bytes};
 use crate::sides::chains_of;
 use crate::{CacheView, Difference, Verdict, read_cache};
 use cache_header::TableImage;
@@ -100,7 +103,11 @@ pub fn check(alloc: Global, cache: &[u8], files: &[Vec<u8>]) -> Result<Verdict, 
     requires few { length files.now ≤ 4096 }
     ensures verdict { IfOk result (λ v. v ≡ spec.verdict_of cache.now (contents files.now)) }
     ensures cause { RefusesSet (files_break (contents files.now)) result }
+    // A cache that agrees corresponds to the files, wherever they are loaded and at every slide that its header permits.
+    ensures agrees { IfOk result (λ v. v ≡ Agrees → CorrespondsEverywhere (contents files.now) cache.now) }
 {
+    are_bytes(cache);
+    files_are_bytes(files);
     let set = match read_files(alloc, files) {
         Ok(set) => set,
         Err(fault) => return Err(fault),

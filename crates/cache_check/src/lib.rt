@@ -18,6 +18,7 @@ mod matching;
 mod mismatch;
 mod names;
 mod pairs;
+mod plain;
 mod read;
 mod references;
 mod sections;

@@ -1,10 +1,11 @@
 // The shapes of images.
-ghost use Rattle.std.specs.Prelude.{◌≡◌, ◌<◌, ◌^◌, ◌++◌, ◌∷◌, [], ℕ, slice_index, IfOk, OnOk, length, filter, nat_eq, not};
+ghost use Rattle.std.specs.Prelude.{◌≡◌, ◌<◌, ◌^◌, ◌++◌, ◌∷◌, [], ℕ, IfOk, OnOk, length, filter, nat_eq, not};
 ghost use Rattle.std.specs.List.{flat_map};
 ghost use Rattle.dsc_base.specs.Numbers.{big_number};
 ghost use Rattle.macho_image.specs.Rules.{is_linkedit_segment};
 ghost use Rattle.load_model.specs.Corresponds as spec;
 
+use crate::plain::are_bytes;
 use byteorder::{BigEndian, ByteOrder};
 use dsc_base::NoMemory;
 use macho_image::{Image, Section, Segment};
@@ -108,13 +109,6 @@ fn count_segments(segments: &[Segment<'_>]) -> usize
         .iter()
         .filter(|segment| !segment.is_linkedit())
         .count()
-}
-
-/// Does nothing; its contract tells what is true of each slice of bytes.
-fn are_bytes(bytes: &[u8])
-    ensures { (k : ℕ) → slice_index bytes.now k < 256 }
-{
-    let _ = bytes;
 }
 
 /// The shape of an image as a list of numbers: how many segments it has besides `__LINKEDIT`; for each of

@@ -1,5 +1,4 @@
-use Rattle.std.proofs.Common.{◌≡◌, List, Vec, Global, sym, ap, subst, ◌∙◌}
-use Rattle.macho_image.specs.Records.{Img}
+use Rattle.std.proofs.Common.{List, Vec, Global, sym, ap, subst, ◌∙◌}
 use Rattle.prebind.specs.declared.resolved.PlacedWord.{PlacedWord}
 use Rattle.prebind.specs.Sets.{ImageSet, image_set}
 use Rattle.prebind.specs.Steps.{set_of}

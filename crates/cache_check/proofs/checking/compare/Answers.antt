@@ -1,4 +1,4 @@
-use Rattle.std.proofs.Common.{◌≡◌, length, sym, ◌∙◌}
+use Rattle.std.proofs.Common.{length, sym, ◌∙◌}
 use Rattle.prebind.specs.Steps.{set_of}
 use Rattle.cache_check.specs.Steps.Sides.{chain_view}
 use Rattle.cache_check.proofs.VerdictLaws.{same_count, by_count, by_path, by_images}

@@ -1,7 +1,7 @@
-use Rattle.std.proofs.Common.{◌≡◌, ◌<◌, ℕ, length, sym, subst, ◌∙◌}
+use Rattle.std.proofs.Common.{◌<◌, ℕ, length, sym, subst, ◌∙◌}
 use Rattle.cache_check.specs.Differences.{path_difference}
 use Rattle.cache_check.proofs.DifferenceLaws.{path_at}
-use Rattle.cache_check.proofs.FirstLaws.{none_below, none_more, none_all, found_here}
+use Rattle.cache_check.proofs.FirstLaws.{none_below, none_more, found_here}
 use Rattle.cache_check.proofs.comparing.compare_paths.Goals as goal
 
 pub loop-number-init : goal.loop-number-init

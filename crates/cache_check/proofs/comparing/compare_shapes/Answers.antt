@@ -1,4 +1,4 @@
-use Rattle.std.proofs.Common.{◌≡◌, ◌<◌, ℕ, length, max, sym, ap, subst, ◌∙◌}
+use Rattle.std.proofs.Common.{ℕ, sym, ap, ◌∙◌}
 use Rattle.cache_check.specs.Differences.{part_difference, shape_difference}
 use Rattle.cache_check.specs.Firsts.{first_below}
 use Rattle.cache_check.proofs.FirstLaws.{none_below, none_more, none_all, found_here}

@@ -1,4 +1,4 @@
-use Rattle.std.proofs.Common.{◌≡◌, ◌<◌, ℕ, None, Option, Vec, Global, List, length, get_or, sym, ap, subst, ◌∙◌, arith}
+use Rattle.std.proofs.Common.{◌≡◌, ◌<◌, ℕ, None, Option, List, length, get_or, sym, ap, subst, ◌∙◌, arith}
 use Rattle.macho_image.specs.Records.{Img}
 use Rattle.export_trie.specs.Order.{trie_break}
 use Rattle.prebind.specs.declared.resolved.PlacedWord.{PlacedWord}

@@ -1,6 +1,5 @@
-use Rattle.std.proofs.Common.{◌≡◌, ℕ, Option, Some, List, length, map, max, sym, ap, ◌∙◌}
+use Rattle.std.proofs.Common.{ℕ, length, map, max, sym, ap, ◌∙◌}
 use Rattle.std.proofs.lemmas.List.{length-map}
-use Rattle.export_trie.specs.declared.export.Export.{Export}
 use Rattle.cache_check.specs.Differences.{moved_export, other_at}
 use Rattle.cache_check.specs.Firsts.{first_below}
 use Rattle.cache_check.specs.Steps.Moving.{moved_by}

@@ -1,5 +1,4 @@
-use Rattle.std.proofs.Common.{rules, ◌≡◌, ◌<◌, ℕ, List, [], length, nat_lt, get_or, sym, ◌∙◌, arith}
-use Rattle.std.specs.List.Sorted.{IsPartitionPoint}
+use Rattle.std.proofs.Common.{rules, ◌<◌, ℕ, length, nat_lt, get_or, sym, ◌∙◌, arith}
 use Rattle.std.proofs.lemmas.List.Sorted.{IsPartitionPoint-from_clause}
 use Rattle.macho_image.specs.Places.{above}
 use Rattle.slide_chain.specs.declared.words.ChainWord.{ChainWord}

@@ -1,5 +1,4 @@
-use Rattle.std.proofs.Common.{rules, ◌≡◌, ◌<◌, ℕ, List, [], length, nat_lt, get_or, sym, ◌∙◌, arith}
-use Rattle.std.specs.List.Sorted.{IsPartitionPoint}
+use Rattle.std.proofs.Common.{rules, ◌<◌, ℕ, length, nat_lt, get_or, sym, ◌∙◌}
 use Rattle.std.proofs.lemmas.List.Sorted.{IsPartitionPoint-from_clause}
 use Rattle.prebind.specs.declared.resolved.PlacedWord.{PlacedWord}
 use Rattle.prebind.specs.declared.resolved.WordTarget.TheVariants.{Constant}

@@ -1,4 +1,4 @@
-use Rattle.std.proofs.Common.{◌≡◌, ℕ, length, sym, ap, ◌∙◌}
+use Rattle.std.proofs.Common.{ℕ, sym, ap, ◌∙◌}
 use Rattle.cache_check.specs.Bytes.{in_section}
 use Rattle.cache_check.specs.Firsts.{first_below}
 use Rattle.cache_check.specs.Steps.Gaps.{held_mismatch}

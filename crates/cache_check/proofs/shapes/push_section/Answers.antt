@@ -1,4 +1,4 @@
-use Rattle.std.proofs.Common.{◌≡◌, ◌++◌, List, ℕ, OnOk, subst, ap, sym}
+use Rattle.std.proofs.Common.{◌≡◌, ◌++◌, List, ℕ, OnOk, subst, ap}
 use Rattle.macho_image.specs.Records.{Seg}
 use Rattle.cache_check.proofs.PartLaws.{section_is}
 use Rattle.cache_check.proofs.shapes.push_section.Goals as goal

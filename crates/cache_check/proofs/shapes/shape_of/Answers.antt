@@ -1,9 +1,9 @@
-use Rattle.std.proofs.Common.{◌≡◌, ◌≤◌, ◌<◌, ◌^◌, nat_eq, ◌+◌, ◌∷◌, ◌++◌, [], List, ℕ, Vec, Global, get_or, length, refl, sym, ap, subst, ◌∙◌}
+use Rattle.std.proofs.Common.{◌≡◌, ◌≤◌, ◌<◌, ◌^◌, nat_eq, ◌+◌, ◌∷◌, ◌++◌, [], List, ℕ, Vec, Global, get_or, length, sym, ap, subst, ◌∙◌}
 use Rattle.std.specs.Prelude.{filter, not}
 use Rattle.macho_image.specs.Records.{Seg, Img}
 use Rattle.macho_image.specs.Rules.{is_linkedit_segment}
 use Rattle.macho_image.specs.declared.section.Section.{Section}
-use Rattle.load_model.specs.Corresponds.{shape_of, segment_shape, sections_of}
+use Rattle.load_model.specs.Corresponds.{shape_of, segment_shape}
 use Rattle.cache_check.proofs.PartLaws.{AreAllShaped, all_start, all_more, all_other, all_end}
 use Rattle.cache_check.proofs.LongLaws.{few_numbers}
 use Rattle.cache_check.proofs.shapes.shape_of.Goals as goal
@@ -49,7 +49,7 @@ pub returns-clause-few : goal.returns-clause-few
 returns-clause-few c =
     let shape = all_end c.args.image.now c.loop-number.numbers.items c.loop-number.number c.loop-number.invariant.shaped
     (subst (λ (ss : List Seg). length ss ≤ c.loop-number.number) c.loop-number.invariant.segments c.loop-number-test.false) in
-    let bytes : (k : ℕ) → get_or c.args.image.now.header k 0 < 256 = λ k. subst (λ (b : List ℕ). get_or b k 0 < 256) (ap (λ (i : Img). i.header) c.image.view_is) (c.are_bytes.ensures k) in
+    let bytes : (k : ℕ) → get_or c.args.image.now.header k 0 < 256 = λ k. subst (λ (b : List ℕ). get_or b k 0 < 256) (ap (λ (i : Img). i.header) c.image.view_is) (c.are_bytes.ensures.each k) in
     subst (λ (l : List ℕ). length l < 2 ^ 32) (sym shape) (few_numbers c.args.image.now c.facts.ensures bytes)
 
 pub returns-clause-shape : goal.returns-clause-shape

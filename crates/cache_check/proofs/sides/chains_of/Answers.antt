@@ -1,4 +1,4 @@
-use Rattle.std.proofs.Common.{◌≡◌, ◌≤◌, ◌<◌, ℕ, ◌+◌, ◌^◌, List, length, get_or, sym, ap, subst}
+use Rattle.std.proofs.Common.{◌≤◌, ◌<◌, ℕ, ◌+◌, ◌^◌, List, length, get_or, sym, subst}
 use Rattle.slide_chain.specs.declared.words.ChainWord.{ChainWord}
 use Rattle.cache_header.specs.declared.head.Mapping.{Mapping}
 use Rattle.cache_check.specs.Inside.{view_fields}

@@ -1,4 +1,4 @@
-use Rattle.std.proofs.Common.{◌≡◌, ◌≤◌, ◌+◌, ℕ, length, sym, ap, ◌∙◌, arith}
+use Rattle.std.proofs.Common.{length, sym, ◌∙◌, arith}
 use Rattle.cache_check.specs.Bytes.{stray_of, stray_in}
 use Rattle.cache_check.specs.Steps.Sides.{chain_view, pair_view}
 use Rattle.cache_check.proofs.FirstLaws.{none_more, none_all, found_here}
