@@ -14,11 +14,11 @@ use Rattle.load_model.specs.Mapped.{flat, cached_image}
 use Rattle.cache_check.specs.Views.{View, view_of}
 use Rattle.cache_check.specs.Images.{header_place, image_in, images_of, cached_images, each_of, rule_finding, broken_finding}
 
-neither : {X : Type 0} (a b : Option X) → option_or a b ≡ None → (a ≡ None) × (b ≡ None)
+pub neither : {X : Type 0} (a b : Option X) → option_or a b ≡ None → (a ≡ None) × (b ≡ None)
 neither None b none = (refl, none)
 neither (Some x) b none = absurd (cc)
 
-no_rule : (kind : FindingKind) (k : ℕ) (o : Option Site) → rule_finding kind k o ≡ None → o ≡ None
+pub no_rule : (kind : FindingKind) (k : ℕ) (o : Option Site) → rule_finding kind k o ≡ None → o ≡ None
 no_rule kind k None none = refl
 no_rule kind k (Some s) none = absurd (cc)
 

@@ -11,11 +11,11 @@ use Rattle.cache_header.specs.Findings.{finding}
 use Rattle.cache_header.specs.Records.{Entry}
 use Rattle.cache_check.specs.Images.{header_place, image_in, rule_finding, name_finding, linkedit_break, stream_finding}
 
-not_true : (b : Bool) → not b ≡ true → b ≡ false
+pub not_true : (b : Bool) → not b ≡ true → b ≡ false
 not_true false is = refl
 not_true true is = absurd (cc)
 
-not_false : (b : Bool) → not b ≡ false → b ≡ true
+pub not_false : (b : Bool) → not b ≡ false → b ≡ true
 not_false true is = refl
 not_false false is = absurd (cc)
 

@@ -16,10 +16,10 @@ use Rattle.cache_check.proofs.ReachedLaws.{AllOf, InPages, all-any, reached-in, 
 
 -- ---- the words are edits that keep apart
 
-abbrev edits : Slide → ℕ → List ℕ → List ℕ → List Edit
+abbrev pub edits : Slide → ℕ → List ℕ → List ℕ → List Edit
 edits s slide area places = map (settled area) (map (sliding s slide) places)
 
-edits-inside : (s : Slide) (slide n : ℕ) (area places : List ℕ) → AllOf (InPages n) places → AllInside n (map (settled area) (map (sliding s slide) places))
+pub edits-inside : (s : Slide) (slide n : ℕ) (area places : List ℕ) → AllOf (InPages n) places → AllInside n (map (settled area) (map (sliding s slide) places))
 edits-inside s slide n area [] all = tt
 edits-inside s slide n area (a ∷ places) all = (all.0.1, edits-inside s slide n area places all.1)
 
@@ -27,7 +27,7 @@ edit-apart : (s : Slide) (slide a : ℕ) (area places : List ℕ) → KeepsApart
 edit-apart s slide a area [] apart = tt
 edit-apart s slide a area (p ∷ places) apart = (apart.0, edit-apart s slide a area places apart.1)
 
-edits-apart : (s : Slide) (slide : ℕ) (area places : List ℕ) → AreApart places → AllApart (map (settled area) (map (sliding s slide) places))
+pub edits-apart : (s : Slide) (slide : ℕ) (area places : List ℕ) → AreApart places → AllApart (map (settled area) (map (sliding s slide) places))
 edits-apart s slide area [] apart = tt
 edits-apart s slide area (a ∷ places) apart = (edit-apart s slide a area places apart.0, edits-apart s slide area places apart.1)
 
@@ -35,7 +35,7 @@ edits-fit : (s : Slide) (slide : ℕ) (area places : List ℕ) → AllFit (map (
 edits-fit s slide area [] = tt
 edits-fit s slide area (a ∷ places) = (slid-lt s slide (number_at 8 area a), edits-fit s slide area places)
 
-put-slid : (s : Slide) (slide : ℕ) (area : List ℕ) → Suits s area → chain_finding s area ≡ None → slid_area s slide area ≡ put_all (map (settled area) (map (sliding s slide) (reached s area))) area
+pub put-slid : (s : Slide) (slide : ℕ) (area : List ℕ) → Suits s area → chain_finding s area ≡ None → slid_area s slide area ≡ put_all (map (settled area) (map (sliding s slide) (reached s area))) area
 unfolding slid_area
 put-slid s slide area suits none =
     change_all-settled (map (sliding s slide) (reached s area)) area (edits-inside s slide (length area) area (reached s area) (reached-in s area suits))

@@ -56,7 +56,7 @@ pub three_of : (cache : List ℕ) → IsReadable cache → AreThree (length cach
 unfolding head_read
 three_of cache readable = (shaped (length cache) (head_read cache) readable.shape).three
 
-data_part : (cache : List ℕ) (three : AreThree (length cache) (mappings_of cache)) → data_bytes (head_read cache) cache ≡ take three.writable (drop three.text cache)
+pub data_part : (cache : List ℕ) (three : AreThree (length cache) (mappings_of cache)) → data_bytes (head_read cache) cache ≡ take three.writable (drop three.text cache)
 unfolding head_read
 data_part cache three = ap (λ (m : Mapping). take m.size (drop m.file cache)) (data_is (length cache) (mappings_of cache) three)
 
@@ -69,7 +69,7 @@ long_data cache slide readable three =
     ∙ (ap (λ (area : List ℕ). length area) (data_part cache three)
     ∙ length-take-le three.writable (drop three.text cache) (omega (arith, three.long, length-drop three.text cache))))
 
-is_three : (cache : List ℕ) (readable : IsReadable cache) (three : AreThree (length cache) (mappings_of cache)) → IsThree cache three.text three.writable three.linkedit
+pub is_three : (cache : List ℕ) (readable : IsReadable cache) (three : AreThree (length cache) (mappings_of cache)) → IsThree cache three.text three.writable three.linkedit
 is_three cache readable three = record {
   mappings = three.are;
   long = sym three.long;

@@ -1,19 +1,17 @@
 -- A cache of three mappings of whole pages, which are the whole file, with nothing wrong in its head, its slide information and its chains, has no finding.
-use Rattle.std.proofs.Common.{◌≡◌, ◌≤◌, ℕ, ◌+◌, ◌-◌, ◌%◌, true, None, List, [], ◌∷◌, length, take, drop, refl, ap, ap₂, ◌∙◌, subst, sym, arith}
+use Rattle.std.proofs.Common.{◌≡◌, ◌≤◌, ℕ, ◌+◌, ◌-◌, ◌%◌, true, None, List, [], ◌∷◌, length, take, drop, refl, ap, ◌∙◌, arith}
 use Rattle.std.proofs.lemmas.Bool.{and_from, eq-eqb, le-leb}
-use Rattle.std.specs.Prelude.{nat_eq, nat_le, ◌&&◌}
 use Rattle.dsc_base.specs.Refusals.{first_break}
 use Rattle.dsc_base.specs.Region.{region_start, region_size}
 use Rattle.dsc_base.specs.Limits.{span_limit}
 use Rattle.slide_chain.specs.Chains.{chain_finding}
 use Rattle.slide_chain.specs.Info.{info_read, info_finding}
 use Rattle.cache_header.specs.declared.head.Mapping.{Mapping}
-use Rattle.cache_header.specs.Records.{Head}
 use Rattle.cache_header.specs.Findings.{head_finding}
 use Rattle.cache_header.specs.Reading.{mappings_of, slide_info_bytes, slide_place, max_slide, head_read}
 use Rattle.load_model.specs.Mapped.{three_mappings}
 use Rattle.cache_check.specs.Shape.{is_mapping, are_three, is_mapped_whole, linkedit_mapping, is_in_mapping, data_mapping, shape_finding}
-use Rattle.cache_check.specs.Views.{slide_bytes, data_bytes, slide_finding, view_finding}
+use Rattle.cache_check.specs.Views.{slide_finding, view_finding}
 use Rattle.cache_check.proofs.ShapeLaws.{found_none}
 use Rattle.cache_check.proofs.ViewLaws.{nothing_found}
 

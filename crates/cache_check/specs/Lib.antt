@@ -1,5 +1,10 @@
+pub mod Agreeing
+pub mod Bytes
+pub mod Differences
+pub mod Firsts
 pub mod Images
 pub mod Inside
 pub mod Shape
 pub mod Steps
+pub mod Verdict
 pub mod Views
