@@ -1,4 +1,6 @@
 // A cache of two images, made by hand: read, and with the changes that are found.
+mod rows;
+
 use super::*;
 use dsc_base::{ViewFault, put_u32, read_u64};
 use std::alloc::Global;
