@@ -29,7 +29,7 @@ parts_are i words =
 
 -- ---- their lengths
 
-long_each : {X : Type 0} (f : X → List ℕ) (m : ℕ) (xs : List X) → ((x : X) → length (f x) ≡ m) → length (flat_map f xs) ≡ m * length xs
+pub long_each : {X : Type 0} (f : X → List ℕ) (m : ℕ) (xs : List X) → ((x : X) → length (f x) ≡ m) → length (flat_map f xs) ≡ m * length xs
 long_each {X} f m [] each = omega arith
 long_each {X} f m (x ∷ xs) each =
     let rest = long_each f m xs each in

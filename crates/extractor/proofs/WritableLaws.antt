@@ -115,6 +115,7 @@ all_inside start words images none = each_none (outside_of start (cached_set ima
 
 record IsGood (i : Img) (g a : ℕ) : Type 0 where
   pub few : g < 16
+  pub info : not i.has_dyld_info ≡ false
   pub fine : place_fault i (Some g) (offset_in i g a) 0 ≡ None
 
 or_none : (a b : Bool) → (a || b) ≡ false → (a ≡ false) × (b ≡ false)
@@ -135,6 +136,7 @@ good i binds g a none =
         | inl over ↦ absurd (let t = lt_true over in cc)
         | inr within ↦ omega (arith, within)
       ];
+      info = two.0;
       fine = is_none (place_fault i (Some g) (offset_in i g a) 0) three.0;
     }
   where
@@ -156,6 +158,7 @@ located i g a s there low high =
 record IsWritable (i : Img) (l : Location) : Type 0 where
   pub word : IsWord i l
   pub low : l.segment < 16
+  pub info : not i.has_dyld_info ≡ false
 
 written : (start : ℕ) (images : List Img) (k : ℕ) (i : Img) (w : ChainWord) (o : Option Home) → home_of images (start + w.offset) ≡ o → slice_get images k ≡ Some i → is_home k o ≡ true → start + w.offset < 2 ^ 64
     → outside_at (cached_set images) w (start + w.offset) o ≡ None → IsWritable i (location_at i (start + w.offset) o)
@@ -176,6 +179,7 @@ written start images k i w (Some h) home got is high none =
     record {
       word = subst (λ (l : Location). IsWord i l) (located i h.segment a at.segment there at.low high) (accepted_one i (Some h.segment) (offset_in i h.segment a) 0 fine.fine).word;
       low = fine.few;
+      info = fine.info;
     }
   where
     same_image : (a b : Img) → Some a ≡ Some b → a ≡ b
@@ -236,3 +240,14 @@ can_be_written start words images k i got are addresses none =
       apart = spaced_at (start + 0) (free_words start words images k i) all.apart;
       low = λ n d lt. (all.each n d lt).low;
     }
+
+-- an image without dyld info has none
+pub without_info : (start : ℕ) (words : List ChainWord) (images : List Img) (k : ℕ) (i : Img) → slice_get images k ≡ Some i → AreWords 0 (offsets_of words) → HaveAddresses start words → chain_finding start words (cached_set images) ≡ None
+    → i.has_dyld_info ≡ false → free_words start words images k i ≡ []
+without_info start words images k i got are addresses none lacks =
+    let all = gather start 0 images k i words got are addresses (all_inside start words images none) in
+    nothing (free_words start words images k i) all.each
+  where
+    nothing : (ls : List Location) → All (IsWritable i) ls → ls ≡ []
+    nothing [] each = refl
+    nothing (l ∷ ls) each = absurd (false≢true (sym (each 0 l (omega arith)).info ∙ ap not lacks))

@@ -83,8 +83,11 @@ moves_from at (s ∷ ss) = record { address = s.vmaddr; file = at } ∷ moves_fr
 abbrev pub bodies_of : Img → List Seg
 bodies_of i = filter (λ (s : Seg). not (is_linkedit_segment s)) i.segments
 
+abbrev pub whole_pages : List ℕ → List ℕ
+whole_pages bytes = padded (paged (length bytes)) bytes
+
 abbrev pub page_bytes : Seg → List ℕ
-page_bytes s = padded (paged (length s.bytes)) s.bytes
+page_bytes s = whole_pages s.bytes
 
 unfoldable pub body_bytes : Img → List ℕ
 body_bytes i = flat_map page_bytes (bodies_of i)

@@ -2,6 +2,7 @@ pub mod Bound
 pub mod Chained
 pub mod ExtractOf
 pub mod Faults
+pub mod Files
 pub mod Free
 pub mod Homes
 pub mod Placing

@@ -1,5 +1,5 @@
 -- A cache of which nothing is found, as contracts see it.
-use Rattle.std.specs.Prelude.{◌≡◌, List, map, None}
+use Rattle.std.specs.Prelude.{◌≡◌, ◌<◌, ℕ, List, map, slice_index_or, None}
 use Rattle.macho_image.specs.Records.{Img}
 use Rattle.macho_image.specs.declared.place.Location.{Location}
 use Rattle.dep_closure.specs.Linked.{Linked, links_of}
@@ -19,10 +19,11 @@ pub record Parts : Type 0 where
   pub links : Linked
   pub free : List (List Location)
 
--- none of the findings is there, and the parts are those of the view: a sound set, and rebases that can be written
+-- none of the findings is there; the view's bytes are bytes; and the parts are those of the view: a sound set, and rebases that can be written
 pub record IsVetted (p : Parts) : Type 0 where
   pub none : vet_finding p.view ≡ None
   pub view : IsSoundView p.view
+  pub bytes : (n : ℕ) → slice_index_or p.view.flat n 0 < 256
   pub images_are : p.images ≡ images_of p.view
   pub streams_are : p.streams ≡ map cached_lists p.images
   pub links_are : p.links ≡ links_of p.images

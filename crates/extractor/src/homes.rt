@@ -78,7 +78,7 @@ fn fill_segment(
 }
 
 /// Does nothing; its contract tells what is true of each slice of bytes.
-fn are_bytes(bytes: &[u8])
+pub(crate) fn are_bytes(bytes: &[u8])
     ensures { (k : ℕ) → slice_index bytes.now k < 256 }
 {
     let _ = bytes;

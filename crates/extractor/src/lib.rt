@@ -4,11 +4,15 @@
 
 mod bounds;
 mod chain;
+mod entries;
+mod extracting;
 mod free;
 mod homes;
 mod limits;
 mod linkedit;
 mod links;
+mod pages;
+mod parts;
 mod pointers;
 mod pool;
 mod set;
@@ -17,6 +21,7 @@ mod symbols;
 mod vetted;
 mod words;
 
+pub use extracting::extract;
 pub use vetted::{Vetted, vet};
 
 #[cfg(test)]

@@ -7,7 +7,7 @@ ghost use Rattle.extractor.specs.Free.{AreFree, AllWritable, lists};
 ghost use Rattle.extractor.specs.Reading.{AreRead};
 ghost use Rattle.extractor.specs.Vetting as spec;
 
-use crate::linkedit::linkedit_size;
+use crate::linkedit::own_parts;
 use crate::pointers::found;
 use crate::sizes::SizeFault;
 use cache_header::TableImage;
@@ -41,7 +41,7 @@ pub(crate) fn check_sizes(
     ensures { RefusesView (each_of (spec.large_finding start words.now images.now) 0 entries.now) result }
 {
     for (number, entry) in entries.iter().enumerate() {
-        match linkedit_size(alloc, &images[number], &free[number]) {
+        match own_parts(alloc, &images[number], &free[number]) {
             Ok(_) => {}
             Err(SizeFault::TooLarge) => {
                 let at = header_place(entry);

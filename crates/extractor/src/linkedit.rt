@@ -1,28 +1,24 @@
 // What goes into the linkedit of a file of its own.
-ghost use Rattle.std.specs.Prelude.{◌≡◌, ◌≤◌, [], length, IfOk, IfErr};
+ghost use Rattle.std.specs.Prelude.{◌≡◌, ◌≤◌, length, IfOk, IfErr, OnOk};
 ghost use Rattle.nlist_table.specs.Symbols.{tables_of};
 ghost use Rattle.nlist_table.specs.Kept.{AreTables};
 ghost use Rattle.rebase_ops.specs.Writing.{CanBeWritten};
-ghost use Rattle.extractor.specs.ExtractOf.{rebase_stream, linkedit_of};
-ghost use Rattle.std.specs.List.{flat_map};
 ghost use Rattle.linkedit_merge.specs.Indices.{pool_len};
-ghost use Rattle.linkedit_merge.specs.Pool.{pooled_behind, symbol_names};
+ghost use Rattle.extractor.specs.ExtractOf.{rebase_stream, linkedit_of, linkedit_limit};
+ghost use Rattle.extractor.specs.Files.{AreOwnParts};
+ghost use Rattle.extractor.specs.Pools.{names_of, IsPool};
 ghost use Rattle.extractor.specs.Prepared as spec;
 ghost use Rattle.extractor.specs.Reading.{IsRead};
 ghost use Rattle.extractor.specs.Sizes.{IsSize, Exceeds};
 
-use crate::pool::pool_of;
+use crate::entries::{INDEX, SYMBOL};
+use crate::pool::{Pool, pool_of};
 use crate::sizes::{SizeFault, end_behind, entries_size};
 use dsc_base::NoMemory;
 use macho_image::{Image, Location};
-use nlist_table::{Symbol, Tables, read_tables};
+use nlist_table::{Tables, read_tables};
 use rebase_ops::write_rebases;
 use std::alloc::Global;
-
-/// The bytes of an entry of the symbol table, and of one of the indirect table.
-const SYMBOL: u64 = 16;
-
-const INDEX: u64 = 4;
 
 /// The rebase stream of some words; no bytes for none.
 fn rebase_bytes(alloc: Global, image: &Image<'_>, words: &[Location]) -> Result<Vec<u8>, NoMemory>
@@ -76,48 +72,67 @@ fn measure(
     end_behind(0, &lens)
 }
 
-/// How many bytes the pool of the names of symbols has.
-fn pool_size(alloc: Global, symbols: &[Symbol<'_>]) -> Result<u64, SizeFault>
-    ensures size { IfOk result (λ n. n ≡ pool_len (pooled_behind [] (flat_map symbol_names symbols.now))) }
-    ensures cause { IfErr result (Exceeds (pool_len (pooled_behind [] (flat_map symbol_names symbols.now)))) }
+/// The pool of the names in tables.
+fn pool_in<'a>(alloc: Global, tables: &Tables<'a>) -> Result<Pool<'a>, SizeFault>
+    ensures pool { IfOk result IsPool }
+    ensures names { IfOk result (λ p. names_of p ≡ spec.names_in tables.now) }
+    ensures cause { IfErr result (Exceeds (pool_len (spec.names_in tables.now))) }
 {
-    let pool = pool_of(alloc, symbols)?;
-    Ok(pool.len)
+    pool_of(alloc, &tables.symbols)
 }
 
-/// The same of tables.
+/// How many bytes a linkedit has with these tables and the pool of their names.
 fn measure_tables(
-    alloc: Global,
     image: &Image<'_>,
     rebase: u64,
     tables: &Tables<'_>,
+    pool: &Pool<'_>,
 ) -> Result<u64, SizeFault>
+    requires pool { IsPool pool.now }
+    requires names { names_of pool.now ≡ spec.names_in tables.now }
     ensures size { IfOk result (IsSize (spec.table_size image.now rebase tables.now)) }
     ensures cause { IfErr result (Exceeds (spec.table_size image.now rebase tables.now)) }
 {
-    let pool = pool_size(alloc, &tables.symbols)?;
     measure(
         image,
         rebase,
         tables.symbols.len(),
         tables.indirect.len(),
-        pool,
+        pool.len,
     )
 }
 
-/// How many bytes the linkedit of an image has in a file of its own, where some of its words slide and aren't
-/// bound. Refuses more of them than there may be.
-pub(crate) fn linkedit_size(
+/// What goes into a linkedit beside the streams of its image: the rebase stream, the tables, the pool of their
+/// names; and how many bytes all of it has.
+#[derive(Drop)]
+pub(crate) struct OwnParts<'a> {
+    pub rebase: Vec<u8>,
+    pub tables: Tables<'a>,
+    pub pool: Pool<'a>,
+    pub size: u64,
+}
+
+/// What goes into the linkedit of an image in a file of its own, where some of its words slide and aren't bound.
+/// Refuses more bytes than there may be.
+pub(crate) fn own_parts<'a>(
     alloc: Global,
-    image: &Image<'_>,
+    image: &Image<'a>,
     words: &[Location],
-) -> Result<u64, SizeFault>
+) -> Result<OwnParts<'a>, SizeFault>
     requires read { IsRead image.now }
     requires words { CanBeWritten image.now words.now }
-    ensures size { IfOk result (IsSize (length (linkedit_of image.now words.now))) }
+    ensures parts { IfOk result (AreOwnParts image.now words.now) }
+    ensures small { OnOk result (length (linkedit_of image.now words.now) ≤ linkedit_limit) }
     ensures cause { IfErr result (Exceeds (length (linkedit_of image.now words.now))) }
 {
     let rebase = rebase_bytes(alloc, image, words)?;
     let tables = tables_in(alloc, image)?;
-    measure_tables(alloc, image, rebase.len() as u64, &tables)
+    let pool = pool_in(alloc, &tables)?;
+    let size = measure_tables(image, rebase.len() as u64, &tables, &pool)?;
+    Ok(OwnParts {
+        rebase,
+        tables,
+        pool,
+        size,
+    })
 }

@@ -7,6 +7,7 @@ ghost use Rattle.extractor.specs.Placing.{data_start};
 ghost use Rattle.extractor.specs.Vetting.{vet_finding};
 
 use crate::free::free_words;
+use crate::homes::are_bytes;
 use crate::limits::check_sizes;
 use crate::set::link_cached;
 use crate::words::place_words;
@@ -61,6 +62,13 @@ fn data_start(view: &CacheView) -> u64
     start_in(&view.head.mappings)
 }
 
+/// The bytes of a cache at slide 0.
+fn flat_of(view: &CacheView) -> &[u8]
+    ensures { result.now ≡ view.entry.now.flat }
+{
+    view.flat.as_slice()
+}
+
 /// The words of a cache that slide.
 fn words_of(view: &CacheView) -> &[ChainWord]
     ensures { result.now ≡ view.entry.now.words }
@@ -92,6 +100,7 @@ pub fn vet(alloc: Global, view: &CacheView) -> Result<Vetted<'_>, ViewFault>
     ensures cause { RefusesView (vet_finding view.now) result }
 {
     view.facts();
+    are_bytes(flat_of(view));
     let images = view.images(alloc)?;
     let linked = link_cached(alloc, &images)?;
     let start = data_start(view);

@@ -116,11 +116,13 @@ pub(super) const NUMBERS: [(usize, u32); 98] = [
 // The mask, and the start of the page's chain.
 pub(super) const SLIDES: [(usize, u32); 2] = [(0x301c, 0xffff0000), (0x3028, 4)];
 
-type Edits = &'static [(usize, u32)];
+pub(super) type Edits = &'static [(usize, u32)];
 
 // Changes, and the number of what is found with its image and place; nothing is 0.
-pub(super) const CASES: [(Edits, u16, u32, u64); 14] = [
+pub(super) const CASES: [(Edits, u16, u32, u64); 15] = [
     (&[], 0, 0, 0),
+    // a chain that leaves its page
+    (&[(0x2014, 0xffff7fff)], 210, 0, 0x10),
     // the install name differs from the path: what concerns one image comes first
     (&[(0x11b0, 0x642e622f)], 213, 0, 0x1000),
     // a bind of ordinal 1 where there is no dependency, and one of a name that nobody exports

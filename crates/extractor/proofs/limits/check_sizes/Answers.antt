@@ -25,7 +25,7 @@ loop-number-preserved c =
     let within : c.loop-number.number < length c.args.free.now = omega (arith, lt, c.requires.free.count, lists_long c.args.free.now) in
     let own = c.deref.ensures.value ∙ own_words c.args.start c.args.words.now c.args.images.now c.args.free.now c.loop-number.number c.index-images-number.result c.index-free-number.result c.requires.free lt within c.index-images-number.is c.index-free-number.is in
     clear_more (large_finding c.args.start c.args.words.now c.args.images.now) c.args.entries.now c.loop-number.number c.index-entries-number.result c.loop-number.invariant c.loop-number-test.true c.index-entries-number.is
-    (small c.args.start c.args.words.now c.args.images.now c.loop-number.number c.index-images-number.result c.deref.result.now c.index-entries-number.result lt c.index-images-number.is own c.in-Ok.ensures.size.1)
+    (small c.args.start c.args.words.now c.args.images.now c.loop-number.number c.index-images-number.result c.deref.result.now c.index-entries-number.result lt c.index-images-number.is own c.in-Ok.ensures.small)
 
 pub returns : goal.returns
 returns c = clear_none (large_finding c.args.start c.args.words.now c.args.images.now) c.args.entries.now c.loop-number.number c.loop-number.invariant c.loop-number-test.false

@@ -1,4 +1,4 @@
-use Rattle.std.proofs.Common.{◌∙◌, ℕ, List, Vec, Global, map, ap, sym, subst}
+use Rattle.std.proofs.Common.{◌<◌, ◌∙◌, ℕ, List, Vec, Global, map, get_or, ap, sym, subst}
 use Rattle.std.proofs.lemmas.Result.{err_from_is_err_and}
 use Rattle.macho_image.specs.Records.{Img}
 use Rattle.macho_image.specs.declared.place.Location.{Location}
@@ -74,6 +74,7 @@ invariant_of-result c =
     record {
       none = vet_none c.args.view.now c.deref-6.result.now c.data_start-start.result c.words_of-words.result.now c.entries_of.result.now own c.entries_of.ensures c.in_ok-images.ensures.cause (ap link_finding (c.deref-6.ensures.value ∙ sym c.deref.ensures.value) ∙ c.in_ok-linked.ensures.cause) (ap (λ (is : List Img). words_finding c.data_start-start.result c.words_of-words.result.now (cached_set is)) (c.deref-6.ensures.value ∙ sym c.deref-2.ensures.value) ∙ c.in_ok-placed.ensures.cause) c.in_ok-check_sizes.ensures;
       view = c.facts.ensures;
+      bytes = subst (λ (l : List ℕ). (n : ℕ) → get_or l n 0 < 256) c.flat_of.ensures c.are_bytes.ensures;
       images_are = c.in_ok-images.ensures.images;
       streams_are = streams;
       links_are = links;
