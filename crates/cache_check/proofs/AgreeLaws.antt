@@ -35,7 +35,7 @@ use Rattle.load_model.proofs.LoadedReferences.{HaveBytes}
 use Rattle.load_model.proofs.LoadedSides.{IsLoadedWord, IsLoaded, image_loaded}
 use Rattle.load_model.proofs.LoadingLaws.{in_memory-byte}
 use Rattle.load_model.proofs.RuledWords.{HasStreams, read_image}
-use Rattle.load_model.proofs.SliceLaws.{dylib_bytes}
+use Rattle.macho_image.proofs.SliceLaws.{dylib_bytes}
 use Rattle.load_model.proofs.SoundApart.{sound_apart}
 use Rattle.load_model.proofs.SoundSets.{sound_images}
 use Rattle.load_model.proofs.WordCases.{IsOf, of_map, word_in}
