@@ -1,7 +1,10 @@
+pub mod AgreeLaws
+pub mod AlikeLaws
 pub mod BodyLaws
 pub mod BoundLaws
 pub mod BoundsLaws
 pub mod ChainLaws
+pub mod ExtractedLaws
 pub mod FileLaws
 pub mod FirstLaws
 pub mod FreeLaws
@@ -9,7 +12,13 @@ pub mod HomeLaws
 pub mod JoinedLaws
 pub mod LimitLaws
 pub mod MoveLaws
+pub mod OwnAlike
+pub mod OwnRebases
+pub mod OwnSections
+pub mod OwnSegments
+pub mod OwnStreams
 pub mod PlaceLaws
+pub mod PlacedLaws
 pub mod PointerLaws
 pub mod PreparedLaws
 pub mod ReadLaws

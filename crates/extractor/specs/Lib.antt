@@ -1,6 +1,7 @@
 pub mod Bound
 pub mod Chained
 pub mod ExtractOf
+pub mod Extracted
 pub mod Faults
 pub mod Files
 pub mod Free

@@ -3,6 +3,7 @@ ghost use Rattle.std.specs.Prelude.{◌≡◌, position, IfOk};
 ghost use Rattle.dsc_base.specs.Refusals.{RefusesView};
 ghost use Rattle.macho_image.specs.Rules.{same_bytes};
 ghost use Rattle.cache_check.specs.Shape.{data_mapping};
+ghost use Rattle.extractor.specs.Extracted.{AreExtracted};
 ghost use Rattle.extractor.specs.Placing.{data_start};
 ghost use Rattle.extractor.specs.Vetting.{vet_finding};
 
@@ -147,5 +148,14 @@ impl<'a> Vetted<'a> {
         ensures { result ≡ position (λ e. same_bytes path.now e.path) self.now.view.head.images }
     {
         number_in(self.view, path)
+    }
+
+    /// Does nothing; its contract tells what the files are that `extract` makes of the images: each is a dylib
+    /// that breaks no rule of its shape and binds and exports what its image in the cache does; and together
+    /// their names lead where they do in the cache.
+    pub fn promise(&self)
+        ensures { AreExtracted self.now.view }
+    {
+        let _ = &self.free;
     }
 }
