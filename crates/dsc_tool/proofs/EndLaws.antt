@@ -16,8 +16,8 @@ use Rattle.dsc_tool.specs.Steps.{IsProduct, made_of, Tells, TellsStop, IsDeliver
 use Rattle.dsc_tool.specs.Streams.{World, appended, with_files}
 use Rattle.dsc_tool.specs.Texts.{text_of}
 
-abbrev worked : (words : List (List ℕ)) (files : Option Files) (p : Product) → IsProduct words files p → IsWorked words files
-worked words files p (order, contents, is, promised) = record { order = order; contents = contents; made = made_of p; is = is; promised = promised }
+abbrev worked : (words : List (List ℕ)) (before after : World) (p : Product) → IsProduct words before.files before.get_faults after.get_faults p → IsWorked words before after
+worked words before after p (order, cause) = record { order = order; made = made_of p; cause = cause }
 
 -- ---- the count of failed gets has no part in what is delivered
 
@@ -44,23 +44,23 @@ all-delivered m before after AllDone status same is files out err =
 all-delivered m before after NotAlike status same is files out err =
     subst (λ (s : Status). Delivers m before after s) (sym is) (record { ended = ap status_at same; files = files; out = out; err = err })
 
-delivered : (words : List (List ℕ)) (before after : World) (gets : ℕ) (p : Product) (status : Status) → IsProduct words before.files p
-    → Delivers (made_of p) (record before { get_faults = gets }) after status → Ends words before after status
-delivered words before after gets p Done is all = record { worked = worked words before.files p is; all = delivered_since before after gets (made_of p) Done all }
-delivered words before after gets p Differs is all = record { worked = worked words before.files p is; all = delivered_since before after gets (made_of p) Differs all }
-delivered words before after gets p WriteFault is (inl some) = inl (inr (record { worked = worked words before.files p is; some = undelivered_since before after gets (made_of p) some }))
-delivered words before after gets p WriteFault is (inr few) = inr (record { worked = worked words before.files p is; few = unput_since before after gets (made_of p) WriteFault few })
-delivered words before after gets p Memory is few = inr (record { worked = worked words before.files p is; few = unput_since before after gets (made_of p) Memory few })
+delivered : (words : List (List ℕ)) (before after : World) (gets : ℕ) (p : Product) (status : Status)
+    → IsProduct words before.files before.get_faults after.get_faults p → Delivers (made_of p) (record before { get_faults = gets }) after status → Ends words before after status
+delivered words before after gets p Done is all = record { worked = worked words before after p is; all = delivered_since before after gets (made_of p) Done all }
+delivered words before after gets p Differs is all = record { worked = worked words before after p is; all = delivered_since before after gets (made_of p) Differs all }
+delivered words before after gets p WriteFault is (inl some) = inl (inr (record { worked = worked words before after p is; some = undelivered_since before after gets (made_of p) some }))
+delivered words before after gets p WriteFault is (inr few) = inr (record { worked = worked words before after p is; few = unput_since before after gets (made_of p) WriteFault few })
+delivered words before after gets p Memory is few = inr (record { worked = worked words before after p is; few = unput_since before after gets (made_of p) Memory few })
 delivered words before after gets p Refused is never = absurd never
 delivered words before after gets p BadWords is never = absurd never
 delivered words before after gets p ReadFault is never = absurd never
 
 -- where the store is as before the inputs were read, but for its count of failed gets
 pub ends-delivered : (words : List (List ℕ)) (before after : World) (files : Option Files) (gets puts : ℕ) (p : Product) (status : Status) → files ≡ before.files
-    → puts ≡ before.put_faults → IsProduct words before.files p → Delivers (made_of p) (record before { files = files; get_faults = gets; put_faults = puts }) after status
+    → puts ≡ before.put_faults → after.get_faults ≡ gets → IsProduct words before.files before.get_faults gets p → Delivers (made_of p) (record before { files = files; get_faults = gets; put_faults = puts }) after status
     → Ends words before after status
-ends-delivered words before after files gets puts p status same kept is went =
-    delivered words before after gets p status is
+ends-delivered words before after files gets puts p status same kept count is went =
+    delivered words before after gets p status (subst (λ (n : ℕ). IsProduct words before.files before.get_faults n p) (sym count) is)
     (subst (λ (f : Option Files). Delivers (made_of p) (record before { files = f; get_faults = gets }) after status) same
     (subst (λ (n : ℕ). Delivers (made_of p) (record before { files = files; get_faults = gets; put_faults = n }) after status) kept went))
 

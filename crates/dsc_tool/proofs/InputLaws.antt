@@ -44,7 +44,7 @@ too_large_since : (files : Option Files) (old since new : ℕ) (name : List ℕ)
 too_large_since None old since new name file b le (is, rose) = (is, rose_since old since new le rose)
 too_large_since (Some m) old since new name file b le told = told
 
-cause_since : (files : Option Files) (old since new first : ℕ) (name : List ℕ) (file before : ℕ) (stop : Stop) → old ≤ since → FileCause files since new first name file before stop
+pub cause_since : (files : Option Files) (old since new first : ℕ) (name : List ℕ) (file before : ℕ) (stop : Stop) → old ≤ since → FileCause files since new first name file before stop
     → FileCause files old new first name file before stop
 cause_since files old since new first name file before BadWords le never = never
 cause_since files old since new first name file before (Unread i) le (is, inl lacks) = (is, inl lacks)

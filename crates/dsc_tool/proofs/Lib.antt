@@ -1,5 +1,8 @@
 pub mod Clap
+pub mod CheckLaws
+pub mod DoneLaws
 pub mod EndLaws
+pub mod HexLaws
 pub mod InputLaws
 pub mod ListLaws
 pub mod NumberLaws

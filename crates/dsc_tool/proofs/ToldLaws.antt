@@ -2,27 +2,22 @@
 use Rattle.std.proofs.Common.{◌≡◌, ◌⊎◌, ℕ, List, [], ◌∷◌, Option, Some, None, Result, Ok, Err, refl, ap, sym, ◌∙◌, subst, inl, inr}
 use Rattle.std.specs.FinMap.{insert}
 use Rattle.dsc_base.specs.Outside.{Files, AppendsPrefix}
-use Rattle.dsc_base.specs.declared.fault.Break.{Break}
-use Rattle.cache_build.specs.Breaks.{set_break}
-use Rattle.cache_build.specs.Built.{built}
-use Rattle.cache_build.specs.declared.builder.Options.{Options}
-use Rattle.dsc_tool.specs.Options.{delta_bits}
 use Rattle.dsc_tool.specs.declared.status.Status.{Status}
 use Rattle.dsc_tool.specs.declared.status.Status.TheVariants.{Done, Refused, BadWords, ReadFault, WriteFault, Memory, Differs}
 use Rattle.dsc_tool.specs.declared.status.Ending.{Ending}
 use Rattle.dsc_tool.specs.declared.status.Ending.TheVariants.{Done as AllDone, Differs as NotAlike}
 use Rattle.dsc_tool.specs.declared.stop.Stop.{Stop}
 use Rattle.dsc_tool.specs.declared.stop.Stop.TheVariants.{BadWords as NoCommand, Unread, Refused as Broken, Flawed, Memory as NoMemory}
-use Rattle.dsc_tool.specs.Causes.{IsMade, IsDue}
-use Rattle.dsc_tool.specs.Inputs.{Contents, InputsAreRead, inputs_of}
-use Rattle.dsc_tool.specs.Made.{Made, Promised, build_made, cache_made, made}
+use Rattle.dsc_tool.specs.Causes.{WorkCause, IsDue}
+use Rattle.dsc_tool.specs.Inputs.{inputs_of}
+use Rattle.dsc_tool.specs.Made.{Made}
 use Rattle.dsc_tool.specs.Output.{Outcome, command_end, outcome_of, output}
-use Rattle.dsc_tool.specs.Ran.{IsDone, IsStopped, IsCutShort, IsLeftOff, Ends, IsOutcome, IsSettled, IsFaultText, IsByOutput, IsBuilt, Ran}
+use Rattle.dsc_tool.specs.Ran.{IsWorked, IsDone, IsStopped, IsCutShort, IsLeftOff, Ends, IsOutcome, IsSettled, IsFaultText, IsByOutput, Ran}
 use Rattle.dsc_tool.specs.Statuses.{status_at, status_of}
 use Rattle.dsc_tool.specs.Streams.{World, AnyRose, appended, put_files, with_files}
 use Rattle.dsc_tool.specs.Texts.{text_of, cannot_write_line, no_memory_line}
-use Rattle.dsc_tool.specs.Words.{Order, build, command_of}
-use Rattle.dsc_tool.proofs.OutputLaws.{output-made, output-bad_words, output-refused, output-flawed, output-refusal, output-unread}
+use Rattle.dsc_tool.specs.Words.{command_of}
+use Rattle.dsc_tool.proofs.OutputLaws.{output-made, output-worked, output-bad_words, output-refused, output-flawed, output-refusal, output-unread}
 use Rattle.dsc_tool.proofs.PrefixLaws.{appended-none, prefix-none, prefix-whole}
 use Rattle.dsc_tool.proofs.ReadingLaws.{unread_inside}
 
@@ -32,9 +27,14 @@ due_told : (words : List (List ℕ)) (files : Files) (before after : World) (sto
 due_told words files before after stop told due =
     subst (λ (f : Option Files). IsDue words f before.get_faults after.get_faults stop) told due
 
-made_told : (words : List (List ℕ)) (files : Files) (before : World) (order : Order) (contents : Contents) (m : Made) → before.files ≡ Some files
-    → IsMade words before.files order contents m → IsMade words (Some files) order contents m
-made_told words files before order contents m told is = subst (λ (f : Option Files). IsMade words f order contents m) told is
+-- and what came of the words
+pub worked_told : (words : List (List ℕ)) (files : Files) (before after : World) → before.files ≡ Some files → (is : IsWorked words before after)
+    → WorkCause words (Some files) before.get_faults after.get_faults is.order is.made
+worked_told words files before after told is = subst (λ (f : Option Files). WorkCause words f before.get_faults after.get_faults is.order is.made) told is.cause
+
+worked_ends : (words : List (List ℕ)) (files : Files) (before after : World) → before.files ≡ Some files → (is : IsWorked words before after)
+    → output words files ≡ outcome_of files (Ok is.made)
+worked_ends words files before after told is = output-worked words files before.get_faults after.get_faults is.order is.made (worked_told words files before after told is)
 
 put_told : (files : Files) (fs : List (List ℕ × List ℕ)) → with_files (Some files) fs ≡ Some (put_files files fs)
 put_told files [] = refl
@@ -119,7 +119,7 @@ done_told : (words : List (List ℕ)) (files : Files) (before after : World) (st
 done_told words files before after status told is =
     let m = is.worked.made in
     subst (λ (o : Outcome). IsOutcome o before after status)
-    (sym (output-made words files is.worked.order is.worked.contents m (made_told words files before is.worked.order is.worked.contents m told is.worked.is)))
+    (sym (worked_ends words files before after told is.worked))
     (record {
       status_is = is.all.ended;
       files = is.all.files ∙ (ap (λ (f : Option Files). with_files f m.files) told ∙ put_told files m.files);
@@ -139,7 +139,7 @@ cut_told : (words : List (List ℕ)) (files : Files) (before after : World) → 
     → IsByOutput words files before after WriteFault
 cut_told words files before after told cut =
     let m = cut.worked.made in
-    let done = output-made words files cut.worked.order cut.worked.contents m (made_told words files before cut.worked.order cut.worked.contents m told cut.worked.is) in
+    let done = worked_ends words files before after told cut.worked in
     let rose : (WriteFault ≡ Memory) ⊎ AnyRose before after = elim cut.some.part [ inl file ↦ inr (inl (inr file.fault)) | inr text ↦ inr (inr (inl text.fault)) ] in
     record {
       settled = λ never. absurd never;
@@ -196,51 +196,6 @@ by_output words files before after Memory told (inl is) =
     unsettled words files before after Memory (λ never. never) (inl refl) is.out (stop_told words files before after NoMemory told is)
 by_output words files before after Memory told (inr left) =
     unsettled words files before after Memory (λ never. never) (inl refl) left.few.out (memory_told words files before after Memory left)
-
--- ---- a build that was done
-
-abbrev made_or : Made → Result Made Stop → Made
-made_or d (Ok m) = m
-made_or d (Err stop) = d
-
-build_made_is : (out : List ℕ) (bytes : List (List ℕ)) (found : Option Break) (m : Made) → build_made out bytes found ≡ Ok m → (found ≡ None) × (m ≡ cache_made out bytes)
-build_made_is out bytes None m is = (refl, sym (ap (made_or m) is))
-build_made_is out bytes (Some b) m is = absurd cc
-
-abbrev order_or : Order → Option Order → Order
-order_or d None = d
-order_or d (Some order) = order
-
-build_done : (words : List (List ℕ)) (files : Files) (before after : World) (options : Options) (out : List ℕ) (names : List (List ℕ)) (contents : Contents) (m : Made)
-    → before.files ≡ Some files → InputsAreRead (Some files) (inputs_of (build options out names)) contents → made (build options out names) contents ≡ Ok m
-    → Promised (build options out names) contents → after.files ≡ with_files before.files m.files → IsBuilt out names files after.files
-build_done words files before after options out names contents m told read is promised put =
-    let parts = build_made_is out contents.files (set_break delta_bits contents.files) m is in
-    record {
-      bytes = contents.files;
-      inputs = read.rest;
-      unbroken = parts.0;
-      cache = built delta_bits contents.files;
-      is = refl;
-      corresponds = promised;
-      placed = put ∙ (ap (λ (f : Option Files). with_files f m.files) told ∙ ap (λ (n : Made). with_files (Some files) n.files) parts.1);
-    }
-
--- after Done the cache of the told inputs is at its name
-built-told : (words : List (List ℕ)) (files : Files) (before after : World) (options : Options) (out : List ℕ) (names : List (List ℕ)) → before.files ≡ Some files
-    → command_of words ≡ Some (build options out names) → IsDone words before after Done → IsBuilt out names files after.files
-built-told words files before after options out names told spelled is =
-    let w = is.worked in
-    let here = made_told words files before w.order w.contents w.made told w.is in
-    let same : w.order ≡ build options out names = ap (order_or w.order) (sym here.read.spelled ∙ spelled) in
-    build_done words files before after options out names w.contents w.made told
-    (subst (λ (o : Order). InputsAreRead (Some files) (inputs_of o) w.contents) same here.read.inputs)
-    (subst (λ (o : Order). made o w.contents ≡ Ok w.made) same here.made) (subst (λ (o : Order). Promised o w.contents) same w.promised) is.all.files
-
-pub done-built : (words : List (List ℕ)) (files : Files) (before after : World) (options : Options) (out : List ℕ) (names : List (List ℕ)) (status : Status) → before.files ≡ Some files
-    → command_of words ≡ Some (build options out names) → status ≡ Done → Ends words before after status → IsBuilt out names files after.files
-done-built words files before after options out names status told spelled done is =
-    built-told words files before after options out names told spelled (subst (λ (s : Status). Ends words before after s) done is)
 
 pub ran : (words : List (List ℕ)) (before after : World) (status : Status) → Ends words before after status → Ran words before after status
 ran words before after status is = record { ends = is; by_output = λ files told. by_output words files before after status told is }

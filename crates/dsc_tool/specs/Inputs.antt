@@ -8,7 +8,7 @@ use Rattle.dsc_base.specs.declared.outside.store.GetFault.TheVariants.{TooLarge}
 use Rattle.dsc_tool.specs.declared.stop.Stop.{Stop}
 use Rattle.dsc_tool.specs.declared.stop.Stop.TheVariants.{BadWords, Unread, Refused, Flawed, Memory}
 use Rattle.dsc_tool.specs.Stops.{file_limit, input_limit, cache_limit, too_large, input_too_large, cache_too_large}
-use Rattle.dsc_tool.specs.Words.{Order, build, list, info, trial}
+use Rattle.dsc_tool.specs.Words.{Order, build, check, list, info, trial}
 
 -- what an order reads, by name: a cache, if it has one, and behind it files
 pub record Names : Type 0 where
@@ -17,6 +17,7 @@ pub record Names : Type 0 where
 
 abbrev pub inputs_of : Order → Names
 inputs_of (build options out names) = record { cache = None; files = names }
+inputs_of (check cache names) = record { cache = Some cache; files = names }
 inputs_of (list cache) = record { cache = Some cache; files = [] }
 inputs_of (info cache) = record { cache = Some cache; files = [] }
 inputs_of (trial options seed count) = record { cache = None; files = [] }

@@ -10,6 +10,7 @@ pub mod Steps
 pub mod Stops
 pub mod Streams
 pub mod Texts
+pub mod VerdictTexts
 pub mod WordNumbers
 pub mod WordParts
 pub mod Words

@@ -9,16 +9,21 @@ use Rattle.cache_header.specs.Records.{Head}
 use Rattle.cache_build.specs.Always.{CorrespondsAlways}
 use Rattle.cache_build.specs.Breaks.{set_break}
 use Rattle.cache_build.specs.Built.{built}
+use Rattle.cache_check.specs.declared.verdict.Verdict.{Verdict}
+use Rattle.cache_check.specs.declared.verdict.Verdict.TheVariants.{Agrees, Differs as Unlike, Broken}
+use Rattle.cache_check.specs.Verdict.{verdict_of}
 use Rattle.cache_check.specs.Views.{view_of}
 use Rattle.dsc_gen.specs.Files.{generated}
+use Rattle.load_model.specs.Phases.{files_break}
 use Rattle.dsc_tool.specs.Options.{delta_bits}
 use Rattle.dsc_tool.specs.Inputs.{Contents}
 use Rattle.dsc_tool.specs.Texts.{built_line, list_text, info_text, trial_line}
-use Rattle.dsc_tool.specs.Words.{Order, build, list, info, trial}
+use Rattle.dsc_tool.specs.VerdictTexts.{verdict_line}
+use Rattle.dsc_tool.specs.Words.{Order, build, check, list, info, trial}
 use Rattle.dsc_tool.specs.declared.status.Ending.{Ending}
-use Rattle.dsc_tool.specs.declared.status.Ending.TheVariants.{Done}
+use Rattle.dsc_tool.specs.declared.status.Ending.TheVariants.{Done, Differs}
 use Rattle.dsc_tool.specs.declared.stop.Stop.{Stop}
-use Rattle.dsc_tool.specs.declared.stop.Stop.TheVariants.{Refused, Flawed}
+use Rattle.dsc_tool.specs.declared.stop.Stop.TheVariants.{BadWords, Unread, Refused, Flawed, Memory}
 
 -- files to put, each by its name and its bytes, in their order, and then a text for standard output; and how the run ends where all of it is put
 pub record Made : Type 0 where
@@ -43,6 +48,20 @@ abbrev pub build_made : List ℕ → List (List ℕ) → Option Break → Result
 build_made out files (Some b) = Err (Refused b)
 build_made out files None = Ok (cache_made out files)
 
+-- a verdict, told: a run is done where a cache agrees with its files
+abbrev pub ending_of : Verdict → Ending
+ending_of Agrees = Done
+ending_of (Unlike difference) = Differs
+ending_of (Broken finding) = Differs
+
+abbrev pub verdict_made : ℕ → Verdict → Made
+verdict_made images v = record { ending = ending_of v; files = []; text = verdict_line images v }
+
+-- on a cache and files, by the first rule that these break before they are laid out
+abbrev pub check_made : List ℕ → List (List ℕ) → Option Break → Result Made Stop
+check_made cache files (Some b) = Err (Refused b)
+check_made cache files None = Ok (verdict_made (length files) (verdict_of cache files))
+
 -- a text on a cache, by the first finding in its head
 abbrev pub told_of : (Head → List ℕ) → List ℕ → Option Finding → Result Made Stop
 told_of text cache (Some f) = Err (Flawed f)
@@ -66,13 +85,31 @@ trial_made files None = Ok (text_made (trial_text files (built delta_bits files)
 
 abbrev pub made : Order → Contents → Result Made Stop
 made (build options out names) c = build_made out c.files (set_break delta_bits c.files)
+made (check name names) c = check_made (unwrap_or c.cache []) c.files (files_break c.files)
 made (list name) c = head_made list_text (unwrap_or c.cache [])
 made (info name) c = head_made info_text (unwrap_or c.cache [])
 made (trial options seed count) c = trial_made (trial_files seed count) (set_break delta_bits (trial_files seed count))
 
+-- a check of so many files whose inputs aren't all read: that the cache is too large is what it finds
+abbrev pub check_halted : ℕ → Stop → Result Made Stop
+check_halted images BadWords = Err BadWords
+check_halted images (Unread input) = Err (Unread input)
+check_halted images (Refused b) = Err (Refused b)
+check_halted images (Flawed f) = Ok (verdict_made images (Broken f))
+check_halted images Memory = Err Memory
+
+-- what an order comes to whose inputs aren't all read
+abbrev pub halted : Order → Stop → Result Made Stop
+halted (build options out names) stop = Err stop
+halted (check name names) stop = check_halted (length names) stop
+halted (list name) stop = Err stop
+halted (info name) stop = Err stop
+halted (trial options seed count) stop = Err stop
+
 -- what is true of it: a cache that is built corresponds to its files
 abbrev pub Promised : Order → Contents → Type 0
 Promised (build options out names) c = CorrespondsAlways c.files (built delta_bits c.files)
+Promised (check name names) c = Unit {0}
 Promised (list name) c = Unit {0}
 Promised (info name) c = Unit {0}
 Promised (trial options seed count) c = CorrespondsAlways (trial_files seed count) (built delta_bits (trial_files seed count))

@@ -6,7 +6,7 @@ use Rattle.dsc_tool.specs.declared.status.Status.{Status}
 use Rattle.dsc_tool.specs.declared.stop.Stop.{Stop}
 use Rattle.dsc_tool.specs.declared.stop.Stop.TheVariants.{BadWords, Unread, Refused, Flawed}
 use Rattle.dsc_tool.specs.Inputs.{Contents, Names, inputs_of, cache_count, total}
-use Rattle.dsc_tool.specs.Made.{Made, made}
+use Rattle.dsc_tool.specs.Made.{Made, made, halted}
 use Rattle.dsc_tool.specs.Statuses.{status_at, status_of}
 use Rattle.dsc_tool.specs.Stops.{file_limit, input_limit, cache_limit, too_large, input_too_large, cache_too_large}
 use Rattle.dsc_tool.specs.Streams.{put_files}
@@ -53,7 +53,7 @@ inputs_end files names = behind_cache files names (cache_end files names.cache)
 
 abbrev pub order_end : Order → Result Contents Stop → Result Made Stop
 order_end order (Ok contents) = made order contents
-order_end order (Err stop) = Err stop
+order_end order (Err stop) = halted order stop
 
 -- of the order, where the words spell one
 abbrev pub command_end : Files → Option Order → Result Made Stop

@@ -1,38 +1,41 @@
 -- What is so after a run, by the status that it answered.
-use Rattle.std.specs.Prelude.{◌≡◌, ◌<◌, ◌⊎◌, ℕ, List, Option, Some, None, Ok, Err}
-use Rattle.std.specs.FinMap.{insert}
+use Rattle.std.specs.Prelude.{◌≡◌, ◌<◌, ◌⊎◌, ℕ, List, length, Option, Some, None, Ok, Err}
+use Rattle.std.specs.FinMap.{get, insert}
 use Rattle.dsc_base.specs.Outside.{Files, Rose, AppendsPrefix}
 use Rattle.dsc_base.specs.declared.fault.Break.{Break}
 use Rattle.dsc_base.specs.declared.fault.Finding.{Finding}
 use Rattle.cache_build.specs.Always.{CorrespondsAlways}
 use Rattle.cache_build.specs.Breaks.{set_break}
 use Rattle.cache_build.specs.Built.{built}
+use Rattle.cache_check.specs.declared.verdict.Verdict.{Verdict}
+use Rattle.cache_check.specs.declared.verdict.Verdict.TheVariants.{Agrees}
+use Rattle.cache_check.specs.Verdict.{verdict_of}
+use Rattle.load_model.specs.Phases.{files_break}
 use Rattle.dsc_tool.specs.Options.{delta_bits}
 use Rattle.dsc_tool.specs.declared.status.Status.{Status}
 use Rattle.dsc_tool.specs.declared.status.Status.TheVariants.{Done, Refused, BadWords, ReadFault, WriteFault, Memory, Differs}
 use Rattle.dsc_tool.specs.declared.stop.Stop.{Stop}
 use Rattle.dsc_tool.specs.declared.stop.Stop.TheVariants.{BadWords as NoCommand, Unread, Refused as Broken, Flawed, Memory as NoMemory}
-use Rattle.dsc_tool.specs.Causes.{IsMade, RefusalCause, IsDue}
-use Rattle.dsc_tool.specs.Inputs.{AreRead, Contents, inputs_of, input_count}
-use Rattle.dsc_tool.specs.Made.{Made, Promised}
+use Rattle.dsc_tool.specs.Causes.{IsMade, RefusalCause, WorkCause, IsDue}
+use Rattle.dsc_tool.specs.Inputs.{AreRead, CacheIsRead, Contents, inputs_of, input_count}
+use Rattle.dsc_tool.specs.Made.{Made}
 use Rattle.dsc_tool.specs.Output.{Outcome, outcome_of, output}
 use Rattle.dsc_tool.specs.Statuses.{status_of}
 use Rattle.dsc_tool.specs.Steps.{IsDelivered, IsUndelivered, IsUnput}
 use Rattle.dsc_tool.specs.Streams.{World, AnyRose, appended}
+use Rattle.dsc_tool.specs.Stops.{cache_limit}
 use Rattle.dsc_tool.specs.Texts.{text_of, cannot_read_line, cannot_write_line, no_memory_line}
 use Rattle.dsc_tool.specs.Words.{Order, command_of}
 
--- The words spell an order, its inputs are read, and it came to this, of which is true what is promised.
-pub record IsWorked (words : List (List ℕ)) (files : Option Files) : Type 0 where
+-- The words spell an order that came to this.
+pub record IsWorked (words : List (List ℕ)) (before after : World) : Type 0 where
   pub order : Order
-  pub contents : Contents
   pub made : Made
-  pub is : IsMade words files order contents made
-  pub promised : Promised order contents
+  pub cause : WorkCause words before.files before.get_faults after.get_faults order made
 
 -- What was made is put, the files at their names and then the text, and the status is what comes of it.
 pub record IsDone (words : List (List ℕ)) (before after : World) (status : Status) : Type 0 where
-  pub worked : IsWorked words before.files
+  pub worked : IsWorked words before after
   pub all : IsDelivered worked.made before after status
 
 -- The run stopped for this cause before anything was put, and standard error tells of it.
@@ -53,12 +56,12 @@ pub record IsUntold (words : List (List ℕ)) (before after : World) : Type 0 wh
 
 -- The store failed to take all of a file that was made, or standard output the text, and standard error tells of it, unless it failed too.
 pub record IsCutShort (words : List (List ℕ)) (before after : World) : Type 0 where
-  pub worked : IsWorked words before.files
+  pub worked : IsWorked words before after
   pub some : IsUndelivered worked.made before after
 
 -- Memory was wanting for the put of a file that was made, of which those before it are put.
 pub record IsLeftOff (words : List (List ℕ)) (before after : World) (status : Status) : Type 0 where
-  pub worked : IsWorked words before.files
+  pub worked : IsWorked words before after
   pub few : IsUnput worked.made before after status
 
 -- what is so after each status, over every store and sink
@@ -129,3 +132,26 @@ pub record IsBuilt (out : List ℕ) (names : List (List ℕ)) (files : Files) (a
   pub is : cache ≡ built delta_bits bytes
   pub corresponds : CorrespondsAlways bytes cache
   pub placed : after ≡ Some (insert files out cache)
+
+-- The inputs of these names are there and within the limits, the files among them break no rule before they are laid out, and this is the verdict on the cache and them.
+pub record HasVerdict (name : List ℕ) (names : List (List ℕ)) (files : Files) (v : Verdict) : Type 0 where
+  pub cache : List ℕ
+  pub bytes : List (List ℕ)
+  pub there : CacheIsRead (Some files) (Some name) (Some cache)
+  pub inputs : AreRead (Some files) names bytes
+  pub unbroken : files_break bytes ≡ None
+  pub is : v ≡ verdict_of cache bytes
+
+-- the cache of this name has more bytes than one may have that is read
+abbrev pub IsOversized : List ℕ → Files → Type 0
+IsOversized name files = (cache : List ℕ) × (get files name ≡ Some cache) × (cache_limit < length cache)
+
+-- what a check says of the told inputs of these names, by its status: they agree, or the verdict is another, or the cache is too large
+abbrev pub Says : List ℕ → List (List ℕ) → Files → Status → Type 0
+Says name names files Done = HasVerdict name names files Agrees
+Says name names files Differs = IsOversized name files ⊎ ((v : Verdict) × (v ≡ Agrees → ⊥) × HasVerdict name names files v)
+Says name names files Refused = Unit {0}
+Says name names files BadWords = Unit {0}
+Says name names files ReadFault = Unit {0}
+Says name names files WriteFault = Unit {0}
+Says name names files Memory = Unit {0}

@@ -1,5 +1,5 @@
 -- What the parts of a run leave to one another.
-use Rattle.std.specs.Prelude.{◌≡◌, ◌<◌, ◌≤◌, ◌⊎◌, ℕ, List, [], map, take, length, get_or, Option, Some, None, Err}
+use Rattle.std.specs.Prelude.{◌≡◌, ◌<◌, ◌≤◌, ◌⊎◌, ℕ, List, [], map, take, length, get_or, Option, Some, None, Result, Ok, Err}
 use Rattle.dsc_base.specs.Outside.{Files, HasFile, Rose, AppendsPrefix, LeavesPrefix}
 use Rattle.dsc_base.specs.declared.fault.Break.{Break}
 use Rattle.dsc_base.specs.declared.fault.Finding.{Finding}
@@ -18,15 +18,18 @@ use Rattle.dsc_tool.specs.declared.product.NewFile.{NewFile}
 use Rattle.dsc_tool.specs.declared.status.Status.{Status}
 use Rattle.dsc_tool.specs.declared.status.Status.TheVariants.{Done, Refused, BadWords, ReadFault, WriteFault, Memory, Differs}
 use Rattle.dsc_tool.specs.declared.stop.Stop.{Stop}
-use Rattle.dsc_tool.specs.declared.stop.Stop.TheVariants.{Refused as Broken, Flawed, Memory as NoMemory}
-use Rattle.dsc_tool.specs.Causes.{IsMade}
-use Rattle.dsc_tool.specs.Inputs.{AreRead, CacheCause, Contents, FilesCause}
-use Rattle.dsc_tool.specs.Made.{Made, Promised, build_made, cache_made, text_made, trial_files, trial_text}
+use Rattle.dsc_tool.specs.declared.stop.Stop.TheVariants.{BadWords as NoCommand, Unread, Refused as Broken, Flawed, Memory as NoMemory}
+use Rattle.dsc_tool.specs.Causes.{WorkCause}
+use Rattle.dsc_tool.specs.Inputs.{AreRead, CacheCause, FilesCause}
+use Rattle.dsc_tool.specs.Made.{Made, build_made, check_made, check_halted, verdict_made, cache_made, text_made, trial_files, trial_text}
 use Rattle.dsc_tool.specs.Statuses.{status_at, status_of}
 use Rattle.dsc_tool.specs.Stops.{cache_limit}
 use Rattle.dsc_tool.specs.Streams.{World, appended, with_files}
 use Rattle.dsc_tool.specs.Texts.{text_of, no_memory_line, cannot_write_line}
 use Rattle.dsc_tool.specs.Words.{Order}
+use Rattle.cache_check.specs.declared.verdict.Verdict.TheVariants.{Broken as IsBroken}
+use Rattle.cache_check.specs.Verdict.{verdict_of}
+use Rattle.load_model.specs.Phases.{files_break}
 
 -- ---- what is made
 
@@ -38,9 +41,8 @@ abbrev pub made_of : Product → Made
 made_of p = record { ending = p.ending; files = new_files p.files.items; text = p.text.items }
 
 -- the product is what the words come to, by the files
-abbrev pub IsProduct : List (List ℕ) → Option Files → Product → Type 0
-IsProduct words files p =
-    (order : Order) × (contents : Contents) × IsMade words files order contents (made_of p) × Promised order contents
+abbrev pub IsProduct : List (List ℕ) → Option Files → ℕ → ℕ → Product → Type 0
+IsProduct words files old new p = (order : Order) × WorkCause words files old new order (made_of p)
 
 -- files of these names were read, and break no rule; their cache, which corresponds to them, is made
 pub record BuildWorks (files : Option Files) (out : List ℕ) (names : List (List ℕ)) (m : Made) : Type 0 where
@@ -54,6 +56,38 @@ pub record BuildWorks (files : Option Files) (out : List ℕ) (names : List (Lis
 abbrev pub BuildStop : Option Files → ℕ → ℕ → List ℕ → List (List ℕ) → Stop → Type 0
 BuildStop files old new out names stop =
     FilesCause files old new 0 names stop ⊎ ((bytes : List (List ℕ)) × AreRead files names bytes × (build_made out bytes (set_break delta_bits bytes) ≡ Err stop))
+
+-- files of these names were read, and break no rule before they are laid out; the verdict on a cache of these bytes and them is told
+pub record IsChecked (files : Option Files) (names : List (List ℕ)) (cache : List ℕ) (m : Made) : Type 0 where
+  pub bytes : List (List ℕ)
+  pub read : AreRead files names bytes
+  pub unbroken : files_break bytes ≡ None
+  pub is : m ≡ verdict_made (length bytes) (verdict_of cache bytes)
+
+-- files of these names weren't read behind the cache, or break a rule
+abbrev pub FilesStop : Option Files → ℕ → ℕ → List (List ℕ) → List ℕ → Stop → Type 0
+FilesStop files old new names cache stop =
+    FilesCause files old new 1 names stop ⊎ ((bytes : List (List ℕ)) × AreRead files names bytes × (check_made cache bytes (files_break bytes) ≡ Err stop))
+
+-- a cache of this name was read and checked, or it is too large, which is told
+abbrev pub CheckWorks : Option Files → ℕ → ℕ → List ℕ → List (List ℕ) → Made → Type 0
+CheckWorks files old new name names m =
+    ((cache : List ℕ) × HasFile files name cache × (length cache ≤ cache_limit) × IsChecked files names cache m)
+    ⊎ ((f : Finding) × CacheCause files old new name (Flawed f) × (m ≡ verdict_made (length names) (IsBroken f)))
+
+-- the finding that is what a check finds, where its inputs aren't all read; any other stop ends it
+abbrev pub found_in : Stop → Result Finding Stop
+found_in NoCommand = Err NoCommand
+found_in (Unread input) = Err (Unread input)
+found_in (Broken b) = Err (Broken b)
+found_in (Flawed f) = Ok f
+found_in NoMemory = Err NoMemory
+
+-- a cache of this name wasn't read, or it was and the files behind it weren't or break a rule
+abbrev pub CheckStop : Option Files → ℕ → ℕ → List ℕ → List (List ℕ) → Stop → Type 0
+CheckStop files old new name names stop =
+    (CacheCause files old new name stop × (check_halted (length names) stop ≡ Err stop))
+    ⊎ ((cache : List ℕ) × HasFile files name cache × (length cache ≤ cache_limit) × FilesStop files old new names cache stop)
 
 -- a cache of this name was read, has no finding in its head, and this is what its head says
 pub record HasHead (files : Option Files) (name : List ℕ) (h : Head) : Type 0 where

@@ -71,8 +71,8 @@ trial_line images words span bytes_sum =
 -- the commands that there are
 unfoldable pub usage_text : List ℕ
 usage_text =
-    codes "usage: dsc build [--jobs N] OUT IN..." ++ (line_feed ++ (codes "       dsc list CACHE" ++ (line_feed ++ (codes "       dsc info CACHE"
-    ++ (line_feed ++ (codes "       dsc trial [--jobs N] SEED COUNT" ++ line_feed))))))
+    codes "usage: dsc build [--jobs N] OUT IN..." ++ (line_feed ++ (codes "       dsc check CACHE IN..." ++ (line_feed ++ (codes "       dsc list CACHE"
+    ++ (line_feed ++ (codes "       dsc info CACHE" ++ (line_feed ++ (codes "       dsc trial [--jobs N] SEED COUNT" ++ line_feed))))))))
 
 unfoldable pub refused_line : Break → List ℕ
 refused_line b =

@@ -1,7 +1,7 @@
 // The words of the command line, and the command that they spell.
 ghost use Rattle.std.specs.Prelude.{◌≡◌, IfOk, IfErr, Some, None, map, option_and_then, string_bytes, codes, false};
 ghost use Rattle.dsc_tool.specs.WordParts.{parts};
-ghost use Rattle.dsc_tool.specs.Words.{command_of, order_of, build_order, with_jobs, cache_word, trial_order, are_inputs, IsWithin, IsWordsFault};
+ghost use Rattle.dsc_tool.specs.Words.{command_of, order_of, build_order, with_jobs, check_order, cache_word, trial_order, are_few, are_inputs, IsWithin, IsWordsFault};
 ghost use Rattle.dsc_tool.specs.declared.command.WordsFault.TheVariants as faults;
 
 use crate::number::{MOST_INPUTS, count_of, jobs_of, seed_of};
@@ -17,6 +17,11 @@ pub enum Command {
     Build {
         options: Options,
         out: Text,
+        inputs: Vec<Text>,
+    },
+    /// Checks a cache against the inputs, in their order.
+    Check {
+        cache: Text,
         inputs: Vec<Text>,
     },
     /// Lists the images of a cache.
@@ -51,6 +56,7 @@ const DELTA_BITS: u32 = 16;
 ///
 /// * `build [--jobs N] OUT IN...`, with N from 1 to 64, of one or two decimal digits, and 1 to 4,096 inputs,
 ///   none of which is OUT;
+/// * `check CACHE IN...`, with 1 to 4,096 inputs;
 /// * `list CACHE`;
 /// * `info CACHE`;
 /// * `trial [--jobs N] SEED COUNT`, with SEED below 2^64, of 1 to 20 decimal digits, and COUNT from 1 to 4,096, of
@@ -71,6 +77,8 @@ pub fn read_words(alloc: Global, words: &[String]) -> Result<Command, WordsFault
     let name = name.as_str();
     if name == "build" {
         read_build(alloc, rest)
+    } else if name == "check" {
+        read_check(alloc, rest)
     } else if name == "list" {
         let cache = read_cache_name(alloc, rest)?;
         Ok(Command::List { cache })
@@ -107,6 +115,24 @@ fn read_build(alloc: Global, words: &[String]) -> Result<Command, WordsFault>
         out,
         inputs,
     })
+}
+
+// The check that the words behind its name ask for.
+fn read_check(alloc: Global, words: &[String]) -> Result<Command, WordsFault>
+    ensures spelled { IfOk result (λ c. option_and_then check_order (parts None false (map string_bytes words.now)) ≡ Some (order_of c)) }
+    ensures within { IfOk result IsWithin }
+    ensures cause { IfErr result (IsWordsFault (option_and_then check_order (parts None false (map string_bytes words.now)))) }
+{
+    let split = split_words(alloc, None, words)?;
+    let [cache, inputs @ ..] = split.plain.as_slice() else {
+        return Err(WordsFault::BadWords);
+    };
+    if !are_few(inputs) {
+        return Err(WordsFault::BadWords);
+    }
+    let cache = Text::from_str(alloc, cache)?;
+    let inputs = copy_names(alloc, inputs)?;
+    Ok(Command::Check { cache, inputs })
 }
 
 // The trial that the words behind its name ask for.
@@ -161,10 +187,14 @@ fn read_cache_name(alloc: Global, words: &[String]) -> Result<Text, WordsFault>
 fn are_inputs(out: &str, names: &[&str]) -> bool
     ensures { result ≡ are_inputs out.now (map (λ name. name.now) names.now) }
 {
-    if names.is_empty() || names.len() > MOST_INPUTS {
-        return false;
-    }
-    !names.contains(&out)
+    are_few(names) && !names.contains(&out)
+}
+
+// Whether there are as many names as a command may have inputs.
+fn are_few(names: &[&str]) -> bool
+    ensures { result ≡ are_few (map (λ name. name.now) names.now) }
+{
+    !names.is_empty() && names.len() <= MOST_INPUTS
 }
 
 fn copy_names(alloc: Global, names: &[&str]) -> Result<Vec<Text>, NoMemory>

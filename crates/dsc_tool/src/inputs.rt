@@ -21,6 +21,7 @@ pub(crate) fn read_cache<S: Store>(
     ensures cause { IfErr result (CacheCause (S.files store.old)
         (S.get_faults store.old) (S.get_faults store.new) name.now) }
     ensures files { S.files store.new ≡ S.files store.old }
+    ensures get_count { S.get_faults store.old ≤ S.get_faults store.new }
     ensures put_count { S.put_faults store.new ≡ S.put_faults store.old }
 {
     store.get(alloc, name, CACHE_LIMIT).map_err(unread_cache)

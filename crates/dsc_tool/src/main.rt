@@ -8,6 +8,7 @@ ghost use Rattle.dsc_tool.specs.Statuses.{code_of};
 
 mod cache_text;
 mod command;
+mod hex;
 mod inputs;
 mod number;
 mod product;
@@ -17,6 +18,7 @@ mod status;
 mod stop;
 mod text;
 mod trial;
+mod verdict_text;
 
 pub use command::{Command, WordsFault, read_words};
 use dsc_base::{FileStore, OpenGate, WriterSink};

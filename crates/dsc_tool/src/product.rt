@@ -1,11 +1,12 @@
 // What the words come to before anything is put.
-ghost use Rattle.std.specs.Prelude.{◌≡◌, [], ◌∷◌, IfOk, IfErr, map, string_bytes};
+ghost use Rattle.std.specs.Prelude.{◌≡◌, ◌⊎◌, ℕ, [], ◌∷◌, Ok, Err, IfOk, IfErr, map, string_bytes};
 ghost use Rattle.dsc_tool.specs.Causes.{IsDue};
-ghost use Rattle.dsc_tool.specs.Made.{text_made};
-ghost use Rattle.dsc_tool.specs.Steps.{IsProduct, made_of, BuildWorks, BuildStop, HasHead, TextWorks, HeadStop, TrialWorks, TrialStop};
+ghost use Rattle.dsc_tool.specs.Made.{check_halted, ending_of};
+ghost use Rattle.dsc_tool.specs.Steps.{IsProduct, made_of, BuildWorks, BuildStop, CheckWorks, CheckStop, IsChecked, FilesStop, found_in, HasHead, TextWorks, HeadStop, TrialWorks, TrialStop};
 ghost use Rattle.dsc_tool.specs.Texts.{list_text, info_text};
-ghost use Rattle.dsc_tool.specs.Words.{IsBuild, IsTrial};
+ghost use Rattle.dsc_tool.specs.Words.{AreFew, IsBuild, IsTrial};
 ghost use Rattle.dsc_tool.specs.declared.status.Ending.TheVariants as endings;
+ghost use Rattle.dsc_tool.specs.declared.stop.Stop.TheVariants as stops;
 
 use crate::cache_text::{info_text, list_text};
 use crate::command::{Command, read_words};
@@ -14,9 +15,11 @@ use crate::status::Ending;
 use crate::stop::Stop;
 use crate::text::built_text;
 use crate::trial::{summary, trial_cache};
+use crate::verdict_text::{broken_text, verdict_text};
 use cache_build::{Options, build};
+use cache_check::{Verdict, check};
 use cache_header::{CacheHead, read_cache_head};
-use dsc_base::{Gate, Store, Text};
+use dsc_base::{Finding, Gate, Store, Text};
 use std::alloc::{AllocError, Global};
 use std::thread::Threads;
 
@@ -43,7 +46,8 @@ pub(crate) fn prepare<R: Threads + Sync, S: Store, G: Gate + Sync>(
     store: &mut S,
     gate: &G,
 ) -> Result<Product, Stop>
-    ensures product { IfOk result (IsProduct (map string_bytes words.now) (S.files store.old)) }
+    ensures product { IfOk result (IsProduct (map string_bytes words.now) (S.files store.old)
+        (S.get_faults store.old) (S.get_faults store.new)) }
     ensures stop { IfErr result (IsDue (map string_bytes words.now) (S.files store.old)
         (S.get_faults store.old) (S.get_faults store.new)) }
     ensures files { S.files store.new ≡ S.files store.old }
@@ -55,6 +59,7 @@ pub(crate) fn prepare<R: Threads + Sync, S: Store, G: Gate + Sync>(
             out,
             inputs,
         } => prepare_build(rt, alloc, &options, out, &inputs, store, gate),
+        Command::Check { cache, inputs } => prepare_check(alloc, cache.as_str(), &inputs, store),
         Command::List { cache } => prepare_list(alloc, cache.as_str(), store),
         Command::Info { cache } => prepare_info(alloc, cache.as_str(), store),
         Command::Trial {
@@ -101,6 +106,76 @@ fn one_file(alloc: Global, name: Text, bytes: Vec<u8>, line: String) -> Result<P
     })
 }
 
+// The verdict on the cache of this name and the inputs. That the cache is too large is one, and no input behind
+// it is read then.
+fn prepare_check<S: Store>(
+    alloc: Global,
+    name: &str,
+    inputs: &[Text],
+    store: &mut S,
+) -> Result<Product, Stop>
+    requires { AreFew inputs.now }
+    ensures product { IfOk result (λ p. CheckWorks (S.files store.old)
+        (S.get_faults store.old) (S.get_faults store.new) name.now inputs.now (made_of p)) }
+    ensures stop { IfErr result (CheckStop (S.files store.old) (S.get_faults store.old) (S.get_faults store.new) name.now inputs.now) }
+    ensures files { S.files store.new ≡ S.files store.old }
+    ensures put_count { S.put_faults store.new ≡ S.put_faults store.old }
+{
+    match read_cache(alloc, store, name) {
+        Ok(cache) => check_files(alloc, &cache, inputs, store),
+        Err(stop) => check_halted(alloc, stop),
+    }
+}
+
+// What a check comes to, of however many inputs, whose cache isn't read.
+fn check_halted(alloc: Global, stop: Stop) -> Result<Product, Stop>
+    ensures product { IfOk result (λ p. (images : ℕ) → check_halted images stop ≡ Ok (made_of p)) }
+    ensures stop { IfErr result (λ s. (s ≡ stops.Memory) ⊎ ((images : ℕ) → (s ≡ stop) × (check_halted images stop ≡ Err stop))) }
+{
+    let found = found_in(stop)?;
+    let line = broken_text(alloc, &found)?;
+    Ok(only_text(alloc, Ending::Differs, line.into_bytes()))
+}
+
+// The finding that is what a check finds, where its inputs aren't all read.
+fn found_in(stop: Stop) -> Result<Finding, Stop>
+    ensures { result ≡ found_in stop }
+{
+    match stop {
+        Stop::Flawed(found) => Ok(found),
+        Stop::BadWords | Stop::Unread(_) | Stop::Refused(_) | Stop::Memory => Err(stop),
+    }
+}
+
+// The verdict on the cache and the inputs, which are read behind it.
+fn check_files<S: Store>(
+    alloc: Global,
+    cache: &[u8],
+    inputs: &[Text],
+    store: &mut S,
+) -> Result<Product, Stop>
+    requires { AreFew inputs.now }
+    ensures product { IfOk result (λ p. IsChecked (S.files store.old) inputs.now cache.now (made_of p)) }
+    ensures stop { IfErr result (FilesStop (S.files store.old) (S.get_faults store.old) (S.get_faults store.new) inputs.now cache.now) }
+    ensures files { S.files store.new ≡ S.files store.old }
+    ensures put_count { S.put_faults store.new ≡ S.put_faults store.old }
+{
+    let files = read_files(alloc, store, 1, inputs)?;
+    let verdict = check(alloc, cache, &files)?;
+    let line = verdict_text(alloc, files.len() as u32, &verdict)?;
+    Ok(only_text(alloc, ending_of(&verdict), line.into_bytes()))
+}
+
+// A run is done where a cache agrees with its files.
+fn ending_of(verdict: &Verdict) -> Ending
+    ensures { result ≡ ending_of verdict.now }
+{
+    match verdict {
+        Verdict::Agrees => Ending::Done,
+        Verdict::Differs(_) | Verdict::Broken(_) => Ending::Differs,
+    }
+}
+
 // The list of the images of the cache of this name.
 fn prepare_list<S: Store>(alloc: Global, name: &str, store: &mut S) -> Result<Product, Stop>
     ensures product { IfOk result (λ p. TextWorks list_text (S.files store.old) name.now (made_of p)) }
@@ -110,7 +185,7 @@ fn prepare_list<S: Store>(alloc: Global, name: &str, store: &mut S) -> Result<Pr
 {
     let head = read_head(alloc, name, store)?;
     let text = list_text(alloc, &head)?;
-    Ok(only_text(alloc, text))
+    Ok(only_text(alloc, Ending::Done, text))
 }
 
 // What the head of the cache of this name says.
@@ -122,7 +197,7 @@ fn prepare_info<S: Store>(alloc: Global, name: &str, store: &mut S) -> Result<Pr
 {
     let head = read_head(alloc, name, store)?;
     let text = info_text(alloc, &head)?;
-    Ok(only_text(alloc, text))
+    Ok(only_text(alloc, Ending::Done, text))
 }
 
 // The line that tells of the cache of trial dylibs.
@@ -140,14 +215,14 @@ fn prepare_trial<R: Threads + Sync, G: Gate + Sync>(
 {
     let cache = trial_cache(rt, alloc, options, seed, count, gate)?;
     let line = summary(alloc, count, &cache)?;
-    Ok(only_text(alloc, line.into_bytes()))
+    Ok(only_text(alloc, Ending::Done, line.into_bytes()))
 }
 
-fn only_text(alloc: Global, text: Vec<u8>) -> Product
-    ensures { made_of result ≡ text_made text.items }
+fn only_text(alloc: Global, ending: Ending, text: Vec<u8>) -> Product
+    ensures { made_of result ≡ record { ending = ending; files = []; text = text.items } }
 {
     Product {
-        ending: Ending::Done,
+        ending,
         files: Vec::new(alloc),
         text,
     }

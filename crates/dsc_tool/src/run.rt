@@ -2,10 +2,10 @@
 ghost use Rattle.std.specs.Prelude.{◌≡◌, ℕ, List, Some, map, string_bytes, OnOk, IfErr};
 ghost use Rattle.cache_build.specs.declared.builder.Options.{Options as BuildOptions};
 ghost use Rattle.dsc_base.specs.Outside.{Files};
-ghost use Rattle.dsc_tool.specs.Ran.{Ran, IsBuilt};
+ghost use Rattle.dsc_tool.specs.Ran.{Ran, IsBuilt, Says};
 ghost use Rattle.dsc_tool.specs.Steps.{Delivers, PutsShort, Tells, TellsStop, made_of, new_files};
 ghost use Rattle.dsc_tool.specs.Streams.{with_files, world};
-ghost use Rattle.dsc_tool.specs.Words.{build, command_of};
+ghost use Rattle.dsc_tool.specs.Words.{build, check, command_of};
 
 use crate::product::{NewFile, Product, prepare};
 use crate::status::Status;
@@ -20,10 +20,12 @@ use std::thread::Threads;
 /// Does what the words behind the program's name ask for, and answers how that ended.
 ///
 /// `build [--jobs N] OUT IN...` reads the files IN from the store in their order, at most 67,108,864 bytes of
-/// each and 536,870,912 of all, puts their cache at OUT, and tells of it on `out`. `list CACHE` and
+/// each and 536,870,912 of all, puts their cache at OUT, and tells of it on `out`. `check CACHE IN...` reads
+/// a cache of at most 2,147,483,648 bytes and then files within the same limits, and tells the verdict on them on
+/// `out`; where that isn't that they agree, the answer is `Differs`. `list CACHE` and
 /// `info CACHE` read a cache of at most 2,147,483,648 bytes and tell of it on `out`. `trial [--jobs N] SEED COUNT`
 /// builds the cache of COUNT trial dylibs, whose contents SEED decides, puts nothing, and tells of the cache on
-/// `out`. Any other answer than `Done` is told of on `err`. Nothing is put before the inputs have passed all
+/// `out`. Any other answer than `Done` and `Differs` is told of on `err`. Nothing is put before the inputs have passed all
 /// rules, or the cache has no finding that the command looks for. Where a put on the store or a sink fails, the
 /// answer is `WriteFault`, whatever it would have been.
 pub fn run<R: Threads + Sync, S: Store, O: Sink, E: Sink, G: Gate + Sync>(
@@ -43,6 +45,8 @@ pub fn run<R: Threads + Sync, S: Store, O: Sink, E: Sink, G: Gate + Sync>(
     ensures built { (files : Files) (options : BuildOptions) (name : List ℕ) (inputs : List (List ℕ)) → S.files store.old ≡ Some files
         → command_of (map string_bytes words.now) ≡ Some (build options name inputs) → result ≡ Status.Done
         → IsBuilt name inputs files (S.files store.new) }
+    ensures checked { (files : Files) (name : List ℕ) (inputs : List (List ℕ)) → S.files store.old ≡ Some files
+        → command_of (map string_bytes words.now) ≡ Some (check name inputs) → Says name inputs files result }
 {
     match prepare(rt, alloc, words, store, gate) {
         Ok(product) => deliver(alloc, &product, store, out, err),
@@ -58,11 +62,12 @@ fn deliver<S: Store, O: Sink, E: Sink>(
     out: &mut O,
     err: &mut E,
 ) -> Status
-    ensures { Delivers (made_of product.now)
+    ensures delivers { Delivers (made_of product.now)
         (world (S.files store.old) (S.get_faults store.old) (S.put_faults store.old)
         (O.written out.old) (O.faults out.old) (E.written err.old) (E.faults err.old))
         (world (S.files store.new) (S.get_faults store.new) (S.put_faults store.new)
         (O.written out.new) (O.faults out.new) (E.written err.new) (E.faults err.new)) result }
+    ensures get_count { S.get_faults store.new ≡ S.get_faults store.old }
 {
     match put_files(alloc, &product.files, store) {
         Ok(()) => {}
@@ -80,6 +85,7 @@ fn put_files<S: Store>(alloc: Global, files: &[NewFile], store: &mut S) -> Resul
     ensures all { OnOk result (S.files store.new ≡ with_files (S.files store.old) (new_files files.now)) }
     ensures short { IfErr result (PutsShort (S.files store.old) (S.files store.new)
         (S.put_faults store.old) (S.put_faults store.new) (new_files files.now)) }
+    ensures get_count { S.get_faults store.new ≡ S.get_faults store.old }
 {
     for file in files {
         store.put(alloc, file.name.as_str(), &file.bytes)?;

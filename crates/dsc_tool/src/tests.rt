@@ -1,4 +1,5 @@
 mod asking;
+mod checks;
 mod dylibs;
 mod heads;
 mod pointers;

@@ -10,7 +10,7 @@ use std::alloc::Global;
 pub(crate) fn usage_text() -> &'static str
     ensures { result.now ≡ usage_text }
 {
-    "usage: dsc build [--jobs N] OUT IN...\n       dsc list CACHE\n       dsc info CACHE\n       dsc trial [--jobs N] SEED COUNT\n"
+    "usage: dsc build [--jobs N] OUT IN...\n       dsc check CACHE IN...\n       dsc list CACHE\n       dsc info CACHE\n       dsc trial [--jobs N] SEED COUNT\n"
 }
 
 /// A file or standard output was not written.

@@ -43,6 +43,8 @@ fn each_input_is_asked_for_once_in_order(rt: HostRuntime) -> Result<(), Fail> {
         // empty files are read, and then refused; the one that isn't there ends the reading
         ("build c A B A", Status::Refused, " <A <B <A"),
         ("build c B D A B", Status::ReadFault, " <B <D"),
+        ("check A B D A", Status::ReadFault, " <A <B <D"),
+        ("check D A", Status::ReadFault, " <D"),
         ("list A", Status::Refused, " <A"),
         ("info D", Status::ReadFault, " <D"),
         ("build A A", Status::BadWords, ""),
@@ -54,7 +56,7 @@ fn each_input_is_asked_for_once_in_order(rt: HostRuntime) -> Result<(), Fail> {
             inner,
             notes: String::new(alloc),
         };
-        let answer = run_line(&rt, alloc, line, &mut store, 99, 150)?;
+        let answer = run_line(&rt, alloc, line, &mut store, 99, 250)?;
         assert_eq!(rt; answer.status, status, "{line}");
         assert_eq!(rt; store.notes.as_str(), notes, "{line}");
     }

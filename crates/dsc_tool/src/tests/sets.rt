@@ -259,7 +259,11 @@ pub(super) fn has_bytes<R: Abort>(rt: &R, cache: &[u8], wanted: Patches<'_>) {
 }
 
 // A store with A, in which bytes are set, and B.
-fn two_dylibs(alloc: Global, own: &[Patches<'_>], other: Patches<'_>) -> Result<MemStore, Fail> {
+pub(super) fn two_dylibs(
+    alloc: Global,
+    own: &[Patches<'_>],
+    other: Patches<'_>,
+) -> Result<MemStore, Fail> {
     let mut store = MemStore::new(alloc);
     let mut first = data_dylib(alloc, 0x1000)?;
     for patches in own {

@@ -109,5 +109,7 @@ fn a_usual_dylib_is_built(rt: HostRuntime) -> Result<(), Fail> {
     );
     let cache = store.get(alloc, "c", 0x9000)?;
     has_bytes(&rt, &cache, USUAL);
+    let answer = run_line(&rt, alloc, "check c U S", &mut store, 99, 99)?;
+    assert_eq!(rt; answer.out.bytes(), b"agrees: 2 images\n".as_slice());
     Ok(())
 }

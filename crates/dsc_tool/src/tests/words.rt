@@ -6,7 +6,7 @@ use dsc_base::{MemStore, SoundStore};
 use std::test::Fail;
 
 const USAGE: &str =
-    "usage: dsc build [--jobs N] OUT IN...\n       dsc list CACHE\n       dsc info CACHE\n       dsc trial [--jobs N] SEED COUNT\n";
+    "usage: dsc build [--jobs N] OUT IN...\n       dsc check CACHE IN...\n       dsc list CACHE\n       dsc info CACHE\n       dsc trial [--jobs N] SEED COUNT\n";
 
 #[test]
 fn words_that_are_no_command_are_told(rt: HostRuntime) -> Result<(), Fail> {
@@ -33,6 +33,9 @@ fn words_that_are_no_command_are_told(rt: HostRuntime) -> Result<(), Fail> {
         "build --jobs -- 5 c A",
         "build --job 5 c A",
         "build -j5 c A",
+        "check",
+        "check c",
+        "check --jobs 1 c A",
         "list",
         "list c d",
         "list --jobs 1 c",
@@ -49,7 +52,7 @@ fn words_that_are_no_command_are_told(rt: HostRuntime) -> Result<(), Fail> {
         "trial --jobs 65 5 1",
     ] {
         let mut store = SoundStore::new(alloc);
-        let answer = run_line(&rt, alloc, line, &mut store, 99, 150)?;
+        let answer = run_line(&rt, alloc, line, &mut store, 99, 250)?;
         assert_eq!(rt; answer.status, Status::BadWords, "{line}");
         assert_eq!(rt; answer.err.bytes(), USAGE.as_bytes(), "{line}");
         assert_eq!(rt; answer.out.bytes(), b"".as_slice(), "{line}");
@@ -70,6 +73,9 @@ fn words_that_are_a_command_are_read(rt: HostRuntime) -> Result<(), Fail> {
         "build c A B --jobs=2",
         "build c -- --jobs",
         "build --jobs 2 -- --help A",
+        "check c c",
+        "check - A B",
+        "check -- --help A",
         "list -",
         "list -- --help",
         "info c",
@@ -97,7 +103,7 @@ fn up_to_4096_inputs_are_taken(rt: HostRuntime) -> Result<(), Fail> {
     let answer = run_line(&rt, alloc, line.as_str(), &mut store, 99, 99)?;
     assert_eq!(rt; answer.status, Status::ReadFault);
     line.push_str(" A")?;
-    let answer = run_line(&rt, alloc, line.as_str(), &mut store, 99, 150)?;
+    let answer = run_line(&rt, alloc, line.as_str(), &mut store, 99, 250)?;
     assert_eq!(rt; answer.status, Status::BadWords);
     Ok(())
 }
@@ -115,7 +121,7 @@ fn names_are_taken_as_they_are(rt: HostRuntime) -> Result<(), Fail> {
     let empty = run_words(&rt, alloc, &["build", "--", "-c", ""], &mut store, 99, 99)?;
     assert_eq!(rt; empty.status, Status::Done);
     assert_eq!(rt; store.file("-c").is_some(), true);
-    let none = run_words(&rt, alloc, &["build", "", ""], &mut store, 99, 150)?;
+    let none = run_words(&rt, alloc, &["build", "", ""], &mut store, 99, 250)?;
     assert_eq!(rt; none.status, Status::BadWords);
     Ok(())
 }
