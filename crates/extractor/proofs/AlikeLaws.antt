@@ -16,7 +16,6 @@ use Rattle.macho_image.specs.Places.{wrap, lies_in, section_at, segment_fault, s
 use Rattle.macho_image.specs.Runs.{first_fault}
 use Rattle.macho_image.specs.Streams.{Opcodes, End, Refused, Next, opcodes_of, records, reading_break, site_in}
 use Rattle.macho_image.proofs.Unbroken.{or_none}
-use Rattle.macho_image.proofs.WordLaws.{neither}
 use Rattle.bind_ops.specs.declared.kind.StreamKind.{StreamKind}
 use Rattle.bind_ops.specs.Binds.{Settings, start, bound_at, is_set, symbol_of, record_fault, recorded, moved as set_after, meaning, binds_of, places_of, bind_break}
 use Rattle.bind_ops.specs.Faults.{Reason, Place, BeforeSet, Twice, rule_in}
@@ -69,7 +68,7 @@ module _ (image own : Img) (alike : AreLike image own) where
           → (fault_in own.sections g (slice_get own.segments g) offset before ≡ None) × (location_in own.sections g (slice_get own.segments g) offset ≡ location_in image.sections g (slice_get image.segments g) offset)
       go None found none = absurd (cc)
       go (Some s) found none =
-          let parts = neither (segment_fault s (address_in s offset)) (option_or (section_fault (section_at image.sections g (address_in s offset))) (word_fault (address_in s offset) before)) none in
+          let parts = or_none (segment_fault s (address_in s offset)) (option_or (section_fault (section_at image.sections g (address_in s offset))) (word_fault (address_in s offset) before)) none in
           let to = alike.segments g s found (writable s (lies_in s (address_in s offset)) (nat_eq s.initprot 3) refl parts.0) in (
             ap₂ (λ (xs : List Section) (o : Option Seg). fault_in xs g o offset before) alike.sections to.1.0 ∙ (like_fault image.sections g offset before s to.0 to.1.1 ∙ none),
             ap₂ (λ (xs : List Section) (o : Option Seg). location_in xs g o offset) alike.sections to.1.0
@@ -96,7 +95,7 @@ module _ (image own : Img) (alike : AreLike image own) where
       → (first_fault (record_fault own s) before offsets ≡ None) × (map (bound_at own s) offsets ≡ map (bound_at image s) offsets)
   run_same s before [] none = (refl, refl)
   run_same s before (offset ∷ offsets) none =
-      let two = neither (record_fault image s offset before) (first_fault (record_fault image s) (before + 1) offsets) none in
+      let two = or_none (record_fault image s offset before) (first_fault (record_fault image s) (before + 1) offsets) none in
       let one = one_same s offset before two.0 in
       let rest = run_same s (before + 1) offsets two.1 in
       (ap₂ (λ (a b : Option Reason). option_or a b) one.0 rest.0, ap₂ (λ (b : BoundWord) (bs : List BoundWord). b ∷ bs) one.1 rest.1)

@@ -17,8 +17,8 @@ use Rattle.macho_image.proofs.Unbroken.{least_none_both}
 use Rattle.macho_edit.specs.declared.segment.SegmentPlace.{SegmentPlace}
 use Rattle.macho_edit.specs.MovedImage.{followed, standalone_image}
 use Rattle.macho_edit.specs.Placed.{places_of}
-use Rattle.macho_edit.proofs.Grounds.{all_fail, all_shaped, HasRoom, all_room, IsBare, all_bare}
-use Rattle.macho_edit.proofs.KeptSections.{IsShaped}
+use Rattle.macho_edit.proofs.Grounds.{HasRoom, all_room, IsBare, all_bare}
+use Rattle.macho_image.proofs.HeaderRules.{IsShaped, all_fail, all_shaped}
 use Rattle.macho_edit.proofs.PlaceLaws.{place_other, length-places_of, places_of-at}
 use Rattle.split_info.proofs.SoundSections.{section_inside}
 use Rattle.extractor.specs.ExtractOf.{moves_from, spots_of}
