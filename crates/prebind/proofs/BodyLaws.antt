@@ -1,15 +1,18 @@
 -- The segments of an image with `__LINKEDIT` by its addresses alone, looked up.
-use Rattle.std.proofs.Common.{◌≡◌, ◌+◌, ◌-◌, ℕ, zero, suc, Bool, true, false, List, [], ◌∷◌, ◌++◌, length, refl, sym, ap, ◌∙◌, arith, if◌then◌else◌, Option, Some, None}
-use Rattle.std.specs.Prelude.{slice_get}
+use Rattle.std.proofs.Common.{◌≡◌, ◌+◌, ◌-◌, ℕ, zero, suc, Bool, true, false, not, nat_le, List, [], ◌∷◌, ◌++◌, length, refl, sym, ap, ◌∙◌, arith, if◌then◌else◌, Option, Some, None}
+use Rattle.std.specs.Prelude.{slice_get, All}
 use Rattle.std.specs.Option.{option_or}
 use Rattle.dsc_base.specs.declared.fault.Span.{Span}
+use Rattle.std.proofs.lemmas.List.Elements.{All-head, All-tail}
 use Rattle.macho_image.specs.Records.{Seg}
+use Rattle.macho_image.specs.Rules.{is_linkedit_segment}
 use Rattle.macho_image.specs.declared.places.segment_index.Inside.{Inside}
 use Rattle.macho_image.specs.declared.place.Location.{Location}
 use Rattle.macho_image.specs.Segments.{contains, inside_from, inside, number_of, number_within, value_of}
 use Rattle.macho_image.proofs.NumberLaws.{number_past}
 use Rattle.prebind.specs.Framed.{covers}
-use Rattle.prebind.specs.Bodies.{linkedit_at, whole_of}
+use Rattle.prebind.specs.Bodies.{linkedit_at, whole_of, is_body}
+use Rattle.prebind.specs.Places.{is_linkedit_at}
 
 -- an address is in the segments before `__LINKEDIT`, or in that
 abbrev behind : ℕ → Seg → ℕ → Option Inside
@@ -68,3 +71,14 @@ number_in_body (s ∷ ss) linkedit (suc g) address = number_in_body ss linkedit 
 pub value_in_body : (ss : List Seg) (linkedit : Span) (l : Location) → value_of (whole_of ss linkedit) l ≡ value_of ss l
 unfolding value_of
 value_in_body ss linkedit l = number_in_body ss linkedit l.segment l.address
+
+-- `__LINKEDIT` is told by its number
+not_is : (b : Bool) → not b ≡ true → b ≡ false
+not_is false is = refl
+not_is true is = absurd (cc)
+
+pub linkedit_by_number : (ss : List Seg) (linkedit : Span) (g : ℕ) → All (λ (s : Seg). is_body s ≡ true) ss → nat_le (length ss) g ≡ is_linkedit_at (slice_get (whole_of ss linkedit) g)
+linkedit_by_number [] linkedit zero others = refl
+linkedit_by_number [] linkedit (suc g) others = refl
+linkedit_by_number (s ∷ ss) linkedit zero others = sym (not_is (is_linkedit_segment s) (All-head (λ (s : Seg). is_body s ≡ true) s ss others))
+linkedit_by_number (s ∷ ss) linkedit (suc g) others = linkedit_by_number ss linkedit g (All-tail (λ (s : Seg). is_body s ≡ true) s ss others)

@@ -4,7 +4,7 @@ use Rattle.std.specs.Prelude.{slice_get}
 use Rattle.std.specs.List.{All, AllByRecursion}
 use Rattle.std.specs.Option.{option_or}
 use Rattle.std.proofs.lemmas.List.{length-map, get_or-map, map-append}
-use Rattle.std.proofs.lemmas.List.Elements.{All-weaker}
+use Rattle.std.proofs.lemmas.List.Elements.{All-weaker, filter_passes}
 use Rattle.std.proofs.lemmas.Option.{slice_get_cases, get_or_from_slice_get, slice_get_read}
 use Rattle.dsc_base.specs.declared.fault.Site.{Site}
 use Rattle.dsc_base.specs.declared.fault.Span.{Span}
@@ -26,7 +26,7 @@ use Rattle.prebind.specs.Targets.{pointer_at}
 use Rattle.prebind.specs.Words.{is_bound, placed_bind, rebased_words, streams_in, streams_at, pointers_of, AreOrdered}
 use Rattle.prebind.specs.WordRules.{bind_fault_from, rebase_fault, word_fault}
 use Rattle.prebind.specs.Indexed.{span_of, FrameOf, frame_of, WasRead, IndexOf, AreOf}
-use Rattle.prebind.specs.Bodies.{linkedit_at, whole_of, body_of, AreOfImage}
+use Rattle.prebind.specs.Bodies.{linkedit_at, whole_of, is_body, body_of, AreOfImage}
 use Rattle.prebind.proofs.BodyLaws.{get_last, get_other, value_in_body}
 use Rattle.prebind.proofs.LinkeditLaws.{ends_in_linkedit}
 use Rattle.prebind.proofs.OutlineLaws.{HaveSameOutline, HaveSameValues, same_fault, same_rebased}
@@ -78,6 +78,10 @@ frame_long set k segments frame own =
 
 pub body_few : (set : ImageSet) (k : ℕ) (segments : List Seg) (frame : FrameOf) → OwnImage set k segments frame → length segments < 2 ^ 32
 body_few set k segments frame own = omega (arith, own.few, ap (λ (ss : List Seg). length ss) own.split, length-append segments (own.linkedit ∷ []))
+
+-- none of which is `__LINKEDIT`
+pub body_others : (set : ImageSet) (k : ℕ) (segments : List Seg) (rebases : List Location) (binds : List BoundWord) (references : List Reference) → AreOfImage set k segments rebases binds references → All (λ (s : Seg). is_body s ≡ true) segments
+body_others set k segments rebases binds references own = subst (λ (ss : List Seg). All (λ (s : Seg). is_body s ≡ true) ss) (sym own.body) (filter_passes is_body (segments_at set.images k))
 
 -- which share no address
 before_apart : (s : Seg) (ss ts : List Seg) → AllByRecursion (IsApart s) (ss ++ ts) → AllByRecursion (IsApart s) ss

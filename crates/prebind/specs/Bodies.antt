@@ -1,5 +1,5 @@
 -- The segments of an image where `__LINKEDIT`, the last of them, is told by its addresses alone.
-use Rattle.std.specs.Prelude.{◌≡◌, ◌<◌, ◌^◌, ℕ, Bool, not, List, [], ◌∷◌, ◌++◌, length, filter, codes}
+use Rattle.std.specs.Prelude.{◌≡◌, ◌<◌, ◌^◌, ℕ, Bool, true, not, All, List, [], ◌∷◌, ◌++◌, length, filter, codes}
 use Rattle.dsc_base.specs.declared.fault.Span.{Span}
 use Rattle.macho_image.specs.Records.{Seg}
 use Rattle.macho_image.specs.Rules.{is_linkedit_segment}
@@ -28,9 +28,10 @@ is_body s = not (is_linkedit_segment s)
 abbrev pub body_of : List Seg → List Seg
 body_of segments = filter is_body segments
 
--- segments in a number that the names of segments can tell, and an index of them
+-- segments other than `__LINKEDIT`, in a number that the names of segments can tell, and an index of them
 pub record IsBody (segments : List Seg) (index : List Entry) : Type 0 where
   pub few : length segments < 2 ^ 32
+  pub others : All (λ (s : Seg). is_body s ≡ true) segments
   pub indexed : Indexes segments index
 
 -- what image k of a set has: its segments other than `__LINKEDIT`, in command order, and what its streams spell

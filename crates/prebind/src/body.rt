@@ -5,7 +5,6 @@ ghost use Rattle.prebind.specs.Bodies.{IsBody, whole_of};
 ghost use Rattle.prebind.specs.Places as exports;
 ghost use Rattle.prebind.specs.WordRules as rules;
 
-use crate::exports::is_linkedit_at;
 use crate::spans::covers;
 use dsc_base::Span;
 use macho_image::{Inside, Location, Segment, SegmentIndex, value_at};
@@ -113,7 +112,7 @@ impl<'s, 'a> Body<'s, 'a> {
     pub(crate) fn is_linkedit_at(&self, number: u32) -> bool
         ensures { result ≡ exports.is_linkedit_at (slice_get self.now number) }
     {
-        is_linkedit_at(self.segments, number)
+        number as usize >= self.segments.len()
     }
 
     /// The start of a segment, or 0 where there is none.

@@ -96,12 +96,15 @@ fn target_of(
 fn is_free(bound: &IndexSet<u64>, word: &Location) -> bool
     ensures { result ≡ not (contains nat_eq bound.now word.now.address) }
 {
-    !bound.contains(&word.address)
+    bound.is_empty() || !bound.contains(&word.address)
 }
 
 fn recorded_at(pointers: &IndexMap<u64, u32>, word: &Location) -> Option<u32>
     ensures { result ≡ get nat_eq pointers.now word.now.address }
 {
+    if pointers.is_empty() {
+        return None;
+    }
     pointers.get(&word.address).copied()
 }
 
@@ -191,6 +194,7 @@ fn place_rebases(
     ensures kept { IfOk result (λ kept. kept ≡ not (steps.any_breaks segments.now (contains nat_eq bound.now) (get nat_eq pointers.now) rebases.now)) }
     ensures placed { IfOk result (λ kept. kept ≡ true → words.new.items ≡ words.old.items ++ spec.rebased_words image segments.now (contains nat_eq bound.now) (get nat_eq pointers.now) rebases.now) }
 {
+    words.reserve(rebases.len())?;
     for word in rebases {
         if is_free(bound, word) {
             let value = segments.value_at(word);

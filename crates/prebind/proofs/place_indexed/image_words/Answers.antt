@@ -3,7 +3,7 @@ use Rattle.dsc_base.specs.declared.fault.Site.{Site}
 use Rattle.dsc_base.specs.Refusals.{IsRefusal}
 use Rattle.prebind.specs.Indexed.{FrameOf, IndexOf}
 use Rattle.prebind.proofs.IndexLaws.{within_each}
-use Rattle.prebind.proofs.ImageLaws.{own_image, frame_long, body_few, body_apart, ordered_words, words_fault}
+use Rattle.prebind.proofs.ImageLaws.{own_image, frame_long, body_few, body_others, body_apart, ordered_words, words_fault}
 use Rattle.prebind.proofs.place_indexed.image_words.Goals as goal
 
 pub index-linkedit-requires : goal.index-linkedit-requires
@@ -31,6 +31,7 @@ new-body-requires g c =
     record {
       few = body_few c.requires.set c.args.image c.args.segments.now c.index-frame.result.now
           (own_image c.requires.set c.args.links.now c.args.indexed.now c.args.image c.args.segments.now c.args.rebases.now c.args.binds.now c.args.references.now c.index-frame.result.now c.requires.are c.requires.own c.requires.within at);
+      others = body_others c.requires.set c.args.image c.args.segments.now c.args.rebases.now c.args.binds.now c.args.references.now c.requires.own;
       indexed = c.in_ok-index.ensures;
     }
 
