@@ -76,7 +76,7 @@ is_from k (l ∷ ls) j u got = elim (one_of_two (map (section_of k) l.sections) 
 
 -- ---- so its segment is another
 
-command_at : (P : SegmentLoad → Type 0) (ls : List SegmentLoad) (n : ℕ) (l : SegmentLoad) → AllByRecursion P ls → slice_get ls n ≡ Some l → P l
+pub command_at : (P : SegmentLoad → Type 0) (ls : List SegmentLoad) (n : ℕ) (l : SegmentLoad) → AllByRecursion P ls → slice_get ls n ≡ Some l → P l
 command_at P [] n l all got = absurd (cc)
 command_at P (m ∷ ms) zero l all got = subst P (same_Some m l got) all.0
 command_at P (m ∷ ms) (suc n) l all got = command_at P ms n l all.1 got
