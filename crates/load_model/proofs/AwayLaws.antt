@@ -1,13 +1,10 @@
 -- No word of a set leads to a place of `__LINKEDIT`.
 use Rattle.std.proofs.Common.{◌≡◌, ℕ, zero, suc, ◌+◌, ◌-◌, Bool, true, false, nat_eq, Option, Some, None, List, [], ◌∷◌, ◌++◌, get_or, refl, sym, ap, ◌∙◌, subst, inl, inr, if◌then◌else◌}
-use Rattle.std.specs.Prelude.{slice_get, position, option_map, codes, ℤ, ◌&&◌}
+use Rattle.std.specs.Prelude.{slice_get, option_map, codes, ℤ, ◌&&◌}
 use Rattle.std.specs.Option.{option_and_then}
-use Rattle.std.specs.Cmp.Lexicographic.{pointwise, same_text}
+use Rattle.std.specs.Cmp.Lexicographic.{same_text}
 use Rattle.std.proofs.lemmas.Bool.{cases_Bool, cond-true, cond-false}
 use Rattle.std.proofs.lemmas.Option.{same_Some}
-use Rattle.dsc_base.specs.Refusals.{broken, in_image}
-use Rattle.dsc_base.specs.declared.fault.Break.{Break}
-use Rattle.dsc_base.specs.declared.rule.Rule.TheVariants.{ExportOutside}
 use Rattle.macho_image.specs.Records.{Seg, Img}
 use Rattle.macho_image.specs.Rules.{is_linkedit_name, is_linkedit_segment}
 use Rattle.macho_image.specs.Breaks.{IsSound}
@@ -19,7 +16,6 @@ use Rattle.macho_image.proofs.HeaderLaws.{first_is_text, some_segment, text_posi
 use Rattle.export_trie.specs.declared.export.Export.{Export}
 use Rattle.export_trie.specs.declared.export.Target.{Target}
 use Rattle.export_trie.specs.declared.export.Target.TheVariants.{Offset, Absolute, Reexport}
-use Rattle.export_trie.specs.Finding.{target_named}
 use Rattle.dep_closure.specs.declared.dep.Dep.{Dep}
 use Rattle.dep_closure.specs.declared.dep.Dep.TheVariants as deps
 use Rattle.dep_closure.specs.Linked.{dependency_at}
@@ -33,18 +29,18 @@ use Rattle.prebind.specs.declared.resolved.Resolved.TheVariants as outcomes
 use Rattle.prebind.specs.declared.resolved.WordTarget.{WordTarget}
 use Rattle.prebind.specs.declared.resolved.WordTarget.TheVariants.{Place, Constant}
 use Rattle.prebind.specs.Sets.{StreamLists, ImageSet}
-use Rattle.prebind.specs.Places.{address_of_export, exports_in, is_linkedit_at, is_stray, strays, export_break}
+use Rattle.prebind.specs.Places.{address_of_export, exports_in, is_linkedit_at, is_stray}
 use Rattle.prebind.specs.Agree.{HaveExportsInside}
 use Rattle.prebind.specs.Resolves.{Pair, is_met, Step, Ends, Reexports, first_exporting, place_of, found_step, dependency_step, step, next_name, after_step, resolves_after, export_count, resolves}
 use Rattle.prebind.specs.Targets.{bound_target, outcome_of, pointer_at, value_place, rebase_target}
 use Rattle.prebind.specs.Words.{Word, words_of}
 use Rattle.prebind.proofs.ResolveLaws.{named_first}
+use Rattle.prebind.proofs.SameLaws.{named_stays, none_strays}
 use Rattle.prebind.proofs.SectionHomes.{section_owned}
 use Rattle.load_model.specs.Corresponds.{IsWordOf}
 use Rattle.load_model.proofs.WordCases.{IsIn, in_first, in_rest, word_cases}
 use Rattle.load_model.proofs.LoadedWords.{IsReadImage}
 use Rattle.load_model.proofs.LoadedReferences.{reference_accepted}
-use Rattle.load_model.proofs.RuledWords.{position_none}
 
 -- segment g of some is there, and isn't `__LINKEDIT`
 abbrev pub IsBesides : List Seg → ℕ → Type 0
@@ -67,33 +63,6 @@ abbrev pub StepsBesides : List Img → Step → Type 0
 StepsBesides images (Ends outcome) = EndsBesides images outcome
 StepsBesides images (Reexports k ordinal name) = Unit {0}
 
-pub record IsNamed (es : List Export) (t : Target) : Type 0 where
-  pub export : Export
-  pub there : IsIn es export
-  pub is : export.target ≡ t
-
-pub named_in : (es : List Export) (name : List ℕ) (t : Target) → target_named es name ≡ Some t → IsNamed es t
-unfolding target_named
-named_in [] name t is = absurd (let e : ◌≡◌ {A = Option Target} None (Some t) = is in cc)
-named_in (e ∷ es) name t is = elim (cases_Bool (pointwise nat_eq name e.name)) [
-  | inl same ↦ record {
-    export = e;
-    there = in_first e es;
-    is = same_Some e.target t (sym (cond-true (pointwise nat_eq name e.name) (Some e.target) (target_named es name) same) ∙ is);
-  }
-  | inr other ↦
-      let rest : IsNamed es t = named_in es name t (sym (cond-false (pointwise nat_eq name e.name) (Some e.target) (target_named es name) other) ∙ is) in
-      record { export = rest.export; there = in_rest e es rest.export rest.there; is = rest.is }
-]
-
-pub none_strays : (set : ImageSet) (k : ℕ) → export_break set k ≡ None → position (λ (e : Export). strays (segments_at set.images k) e.target) (get_or (exports_in set.streams) k []) ≡ None
-unfolding export_break
-none_strays set k none = unbroken k (position (λ (e : Export). strays (segments_at set.images k) e.target) (get_or (exports_in set.streams) k [])) none
-  where
-    unbroken : (k : ℕ) (o : Option ℕ) → option_map (in_image k) (broken ExportOutside o) ≡ None → o ≡ None
-    unbroken k None is = refl
-    unbroken k (Some n) is = absurd (let e : ◌≡◌ {A = Option Break} (Some (record { rule = ExportOutside; image = k; at = n })) None = is in cc)
-
 placed_besides : (images : List Img) (k address : ℕ) (o : Option Inside) → is_stray (segments_at images k) o ≡ false → EndsBesides images (place_of k address o)
 placed_besides images k address None stays = absurd (cc)
 placed_besides images k address (Some p) stays = stays
@@ -103,9 +72,8 @@ found_besides set insides name ks None first = tt
 found_besides set insides name ks (Some (k, Offset offset)) first =
     let es : List Export = get_or (exports_in set.streams) k [] in
     let ss : List Seg = segments_at set.images k in
-    let named : IsNamed es (Offset offset) = named_in es name (Offset offset) (named_first (exports_in set.streams) name ks k (Offset offset) first) in
-    placed_besides set.images k (address_of_export ss offset) (inside ss (address_of_export ss offset))
-    (sym (ap (strays ss) named.is) ∙ position_none (λ (e : Export). strays ss e.target) es named.export (none_strays set k (insides k)) named.there)
+    let named = named_first (exports_in set.streams) name ks k (Offset offset) first in
+    placed_besides set.images k (address_of_export ss offset) (inside ss (address_of_export ss offset)) (named_stays ss es name (Offset offset) (none_strays set k (insides k)) named)
 found_besides set insides name ks (Some (k, Absolute value)) first = tt
 found_besides set insides name ks (Some (k, Reexport ordinal own)) first = tt
 
@@ -143,7 +111,7 @@ bound_besides images addend outcomes.BadOrdinal own = tt
 -- ---- where references lead
 
 -- what an option is made of, seen by a number of what is made
-made_of : {X Y : Type 0} (o : Option X) (y : Y) (g : Y → ℕ) (f : X → Y) → option_map f o ≡ Some y → (x : X) × (o ≡ Some x) × (g (f x) ≡ g y)
+pub made_of : {X Y : Type 0} (o : Option X) (y : Y) (g : Y → ℕ) (f : X → Y) → option_map f o ≡ Some y → (x : X) × (o ≡ Some x) × (g (f x) ≡ g y)
 made_of None y g f is = absurd (cc)
 made_of (Some x) y g f is = (x, refl, ap g (same_Some (f x) y is))
 

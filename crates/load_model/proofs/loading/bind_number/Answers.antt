@@ -1,4 +1,4 @@
-use Rattle.std.proofs.Common.{rules, ◌≡◌, ◌∙◌, ap, sym}
+use Rattle.std.proofs.Common.{rules, ◌≡◌, ◌∙◌, ap}
 use Rattle.prebind.specs.Steps.{set_of}
 use Rattle.prebind.specs.Numbers.{number_to}
 use Rattle.prebind.specs.Targets.{bound_target, outcome_of}
