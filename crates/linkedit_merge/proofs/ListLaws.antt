@@ -2,15 +2,13 @@
 use Rattle.std.proofs.Common.{◌≡◌, ◌<◌, ℕ, ◌+◌, List, [], ◌∷◌, ◌++◌, length, map, take, get_or, refl, sym, ap, ◌∙◌, arith, append_assoc, ◌*◌, ap₂}
 use Rattle.std.specs.List.{flat_map, sum_by}
 use Rattle.std.proofs.lemmas.List.Sums.{sum_by-cons, sum_by-append}
-use Rattle.std.proofs.lemmas.List.{append-nil, take_more}
+use Rattle.std.proofs.lemmas.List.{append-nil}
 use Rattle.std.proofs.lemmas.List.Concat.{flat_map-append}
-
-pub take_next : {X : Type 0} (xs : List X) (n : ℕ) (x : X) → n < length xs → x ≡ get_or xs n x → take (n + 1) xs ≡ take n xs ++ x ∷ []
-take_next {X} xs n x within is = take_more xs n x within ∙ ap (λ (y : X). take n xs ++ y ∷ []) (sym is)
+use Rattle.cache_layout.proofs.NumberedLaws.{take-step}
 
 pub flat_next : {X A : Type 0} (f : X → List A) (xs : List X) (n : ℕ) (x : X) → n < length xs → x ≡ get_or xs n x → flat_map f (take (n + 1) xs) ≡ flat_map f (take n xs) ++ f x
 flat_next {X} {A} f xs n x within is =
-    ap (λ (l : List X). flat_map f l) (take_next xs n x within is)
+    ap (λ (l : List X). flat_map f l) (take-step xs n x within is)
     ∙ (flat_map-append f (take n xs) (x ∷ []) ∙ ap (λ (l : List A). flat_map f (take n xs) ++ l) (append-nil (f x)))
 
 -- bytes that grew by what the next item gives

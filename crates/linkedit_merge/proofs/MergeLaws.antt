@@ -8,7 +8,6 @@ use Rattle.dsc_base.specs.Region.{paged}
 use Rattle.dsc_base.specs.Refusals.{IsSetRefusal, RefusesSet}
 use Rattle.dsc_base.specs.declared.fault.Break.{Break}
 use Rattle.dsc_base.specs.declared.fault.SetFault.{SetFault}
-use Rattle.dsc_base.specs.declared.fault.SetFault.TheVariants.{Broken, Memory}
 use Rattle.cache_layout.specs.Layouts.{Laid}
 use Rattle.std.specs.List.{flat_map}
 use Rattle.std.proofs.lemmas.List.{length-map, get_or-map, get_or_default, same_lists, map-append}
@@ -19,12 +18,15 @@ use Rattle.export_trie.specs.declared.export.Export.{Export}
 use Rattle.nlist_table.specs.Symbols.{Tabs}
 use Rattle.cache_layout.specs.Places.{numbered}
 use Rattle.cache_layout.proofs.NumberedLaws.{numbered-get, length-numbered}
+use Rattle.cache_layout.proofs.RoomLaws.{paged-covers}
+use Rattle.linkedit_merge.specs.declared.sizes.SizeFault.{SizeFault}
+use Rattle.linkedit_merge.specs.declared.sizes.SizeFault.TheVariants.{TooLarge, Memory}
 use Rattle.linkedit_merge.specs.Indices.{pool_len}
 use Rattle.linkedit_merge.specs.Linkedit.{streams_in, all_indirect, pool_of, tables_in, parts_of, linkedit_size, linkedit_start, too_large, merge_break, linkedit_of}
 use Rattle.linkedit_merge.specs.Parts.{end_with, end_behind, lens_of}
 use Rattle.linkedit_merge.specs.Pool.{pooled_behind, symbol_names}
 use Rattle.linkedit_merge.specs.Shares.{Share, moved_symbol, share_of, share_at, shares_of}
-use Rattle.linkedit_merge.specs.Sizes.{Exceeds, moved_at, own_at, all_streams, symbols_size, indirect_size, whole_size}
+use Rattle.linkedit_merge.specs.Sizes.{Exceeds, refusal_of, moved_at, own_at, all_streams, symbols_size, indirect_size, whole_size}
 use Rattle.linkedit_merge.proofs.ListLaws.{flat_map-map, flat_within}
 use Rattle.linkedit_merge.proofs.PartLaws.{end-append, length-joined}
 use Rattle.linkedit_merge.proofs.SizeLaws.{end_with-covers}
@@ -145,17 +147,12 @@ unbroken_fits layout slide shares none = ltb-false span_limit (linkedit_start la
     clear true is = absurd (cc)
     clear false is = refl
 
-page_covers : (n : ℕ) → n ≤ paged n
-unfolding paged
-page_covers n = omega arith
-
-refused : (layout : Laid) (slide : ℕ) (shares : List Share) (size : ℕ) (fault : SetFault) → size ≤ linkedit_size shares → Exceeds size fault → IsSetRefusal (merge_break layout slide shares) fault
-refused layout slide shares size (Broken b) below h =
-    breaks_where layout slide shares (omega (arith, h.1, page_covers (linkedit_size shares))) ∙ ap (λ (x : Break). let o : Option Break = Some x in o) (sym h.0)
+refused : (layout : Laid) (slide : ℕ) (shares : List Share) (size : ℕ) (fault : SizeFault) → size ≤ linkedit_size shares → Exceeds span_limit size fault → IsSetRefusal (merge_break layout slide shares) (refusal_of fault)
+refused layout slide shares size TooLarge below h = breaks_where layout slide shares (omega (arith, h, paged-covers (linkedit_size shares)))
 refused layout slide shares size Memory below h = tt
 
 -- the exit of a `?` at a size that exceeds the limit, or for want of memory
-pub refused_exit : {X : Type 0} (layout : Laid) (slide : ℕ) (shares : List Share) (size : ℕ) (r : Result X SetFault) (fault : SetFault) → size ≤ linkedit_size shares → IsErrAnd r (λ g. g ≡ fault) → Exceeds size fault
+pub refused_exit : {X : Type 0} (layout : Laid) (slide : ℕ) (shares : List Share) (size : ℕ) (r : Result X SetFault) (fault : SizeFault) → size ≤ linkedit_size shares → IsErrAnd r (λ g. g ≡ refusal_of fault) → Exceeds span_limit size fault
     → RefusesSet (merge_break layout slide shares) r
 refused_exit layout slide shares size (Ok x) fault below is h = absurd is
 refused_exit layout slide shares size (Err g) fault below is h = subst (λ (f : SetFault). IsSetRefusal (merge_break layout slide shares) f) (sym is) (refused layout slide shares size fault below h)

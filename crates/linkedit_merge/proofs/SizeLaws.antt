@@ -4,8 +4,8 @@ use Rattle.std.proofs.lemmas.List.{at_drop_more, at_drop_all}
 use Rattle.std.proofs.lemmas.Bool.{eqb-true}
 use Rattle.std.specs.Prelude.{nat_eq, Result, Ok, Err, IfErr}
 use Rattle.std.specs.Result.{IsErrAnd}
-use Rattle.dsc_base.specs.declared.fault.SetFault.{SetFault}
-use Rattle.dsc_base.specs.declared.fault.SetFault.TheVariants.{Broken, Memory}
+use Rattle.linkedit_merge.specs.declared.sizes.SizeFault.{SizeFault}
+use Rattle.linkedit_merge.specs.declared.sizes.SizeFault.TheVariants.{TooLarge, Memory}
 use Rattle.linkedit_merge.specs.Parts.{eight_up, end_with, end_behind, lens_of}
 use Rattle.macho_image.specs.Records.{Img}
 use Rattle.export_trie.specs.declared.export.Export.{Export}
@@ -13,14 +13,14 @@ use Rattle.nlist_table.specs.Symbols.{Tabs}
 use Rattle.linkedit_merge.specs.Sizes.{Exceeds, all_streams, symbols_size, indirect_size, whole_size}
 use Rattle.linkedit_merge.proofs.PartLaws.{end_with-rises}
 
-exceeds_more : (less more : ℕ) (fault : SetFault) → less ≤ more → Exceeds less fault → Exceeds more fault
-exceeds_more less more (Broken b) below h = (h.0, omega arith)
-exceeds_more less more Memory below h = tt
+exceeds_more : (limit less more : ℕ) (fault : SizeFault) → less ≤ more → Exceeds limit less fault → Exceeds limit more fault
+exceeds_more limit less more TooLarge below h = omega (arith, below, h)
+exceeds_more limit less more Memory below h = tt
 
 -- the exit of a `?` at a part of the sum
-pub exceeds_exit : {X : Type 0} (less more : ℕ) (r : Result X SetFault) (fault : SetFault) → less ≤ more → IsErrAnd r (λ g. g ≡ fault) → Exceeds less fault → IfErr r (Exceeds more)
-exceeds_exit less more (Ok x) fault below is h = tt
-exceeds_exit less more (Err g) fault below is h = exceeds_more less more g below (subst (λ (f : SetFault). Exceeds less f) (sym is) h)
+pub exceeds_exit : {X : Type 0} (limit less more : ℕ) (r : Result X SizeFault) (fault : SizeFault) → less ≤ more → IsErrAnd r (λ g. g ≡ fault) → Exceeds limit less fault → IfErr r (Exceeds limit more)
+exceeds_exit limit less more (Ok x) fault below is h = tt
+exceeds_exit limit less more (Err g) fault below is h = exceeds_more limit less more g below (subst (λ (f : SizeFault). Exceeds limit less f) (sym is) h)
 
 -- sizes one further on
 pub end_more : (before : ℕ) (lens : List ℕ) (n : ℕ) → n < length lens → end_behind before (drop n lens) ≡ end_behind (end_with before (get_or lens n 0)) (drop (n + 1) lens)

@@ -1,10 +1,9 @@
--- Sizes of parts that are added up, as far as a cache can span.
+-- Sizes of parts that are added up, as far as a limit.
 use Rattle.std.specs.Prelude.{◌≡◌, ◌≤◌, ◌<◌, ℕ, ◌*◌, List, [], ◌∷◌, length, slice_index_or, nat_eq, if◌then◌else◌}
 use Rattle.std.specs.List.{flat_map, sum_by}
-use Rattle.dsc_base.specs.Limits.{span_limit}
 use Rattle.dsc_base.specs.declared.fault.Span.{Span}
 use Rattle.dsc_base.specs.declared.fault.SetFault.{SetFault}
-use Rattle.dsc_base.specs.declared.fault.SetFault.TheVariants.{Broken, Memory}
+use Rattle.dsc_base.specs.declared.fault.SetFault.TheVariants as set_faults
 use Rattle.macho_image.specs.Records.{StreamBytes, Img}
 use Rattle.macho_image.specs.declared.place.Moved.{Moved}
 use Rattle.nlist_table.specs.Symbols.{Tabs}
@@ -12,20 +11,27 @@ use Rattle.cache_layout.specs.Places.{numbered}
 use Rattle.export_trie.specs.Exports.{exports_of}
 use Rattle.export_trie.specs.declared.export.Export.{Export}
 use Rattle.export_trie.specs.Writing.{trie_bytes}
+use Rattle.linkedit_merge.specs.declared.sizes.SizeFault.{SizeFault}
+use Rattle.linkedit_merge.specs.declared.sizes.SizeFault.TheVariants.{TooLarge, Memory}
 use Rattle.linkedit_merge.specs.declared.streams.StreamSpots.{StreamSpots}
 use Rattle.dsc_base.specs.Region.{padded}
 use Rattle.linkedit_merge.specs.Exports.{moved_exports}
 use Rattle.linkedit_merge.specs.Parts.{eight_up, end_behind, lens_of}
 use Rattle.linkedit_merge.specs.Linkedit.{too_large}
 
--- a fault that tells that a size exceeds the limit, where it does
-abbrev pub Exceeds : ℕ → SetFault → Type 0
-Exceeds size (Broken b) = (b ≡ too_large) × (span_limit < size)
-Exceeds size Memory = Unit {0}
+-- a fault that tells that a size exceeds a limit, where it does
+abbrev pub Exceeds : ℕ → ℕ → SizeFault → Type 0
+Exceeds limit size TooLarge = limit < size
+Exceeds limit size Memory = Unit {0}
 
--- a number is the size, which keeps the limit
-abbrev pub IsSize : ℕ → ℕ → Type 0
-IsSize size n = (n ≡ size) × (size ≤ span_limit)
+-- a number is the size, which keeps a limit
+abbrev pub IsSize : ℕ → ℕ → ℕ → Type 0
+IsSize limit size n = (n ≡ size) × (size ≤ limit)
+
+-- a linkedit that exceeds what a cache may span, as a refusal of the set
+abbrev pub refusal_of : SizeFault → SetFault
+refusal_of TooLarge = set_faults.Broken too_large
+refusal_of Memory = set_faults.Memory
 
 -- the streams of an image in a linkedit, where it has these exports
 abbrev pub own_streams : StreamBytes → List Export → List (List ℕ)

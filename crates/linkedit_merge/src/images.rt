@@ -1,6 +1,7 @@
 // The streams and tables of all images.
 ghost use Rattle.std.specs.Prelude.{◌≡◌, ◌≤◌, ◌++◌, ◌^◌, None, map, length, slice_index_or, All, IfOk, IfErr, OnOk};
 ghost use Rattle.std.specs.List.{flat_map};
+ghost use Rattle.dsc_base.specs.Limits.{span_limit};
 ghost use Rattle.dsc_base.specs.Numbers.{little_bytes};
 ghost use Rattle.export_trie.specs.Order.{trie_break};
 ghost use Rattle.export_trie.specs.Writing.{IsWritable};
@@ -10,11 +11,11 @@ ghost use Rattle.linkedit_merge.specs.ReadBack.{AreTries};
 ghost use Rattle.linkedit_merge.specs.Sizes as sizes;
 
 use crate::exports::move_exports;
-use crate::sizes::with_entries;
+use crate::sizes::{SizeFault, with_entries};
 use crate::streams::{StreamSpots, put_streams, streams_end};
 use crate::tables::append_indices;
 use cache_layout::Layout;
-use dsc_base::{NoMemory, SetFault};
+use dsc_base::{NoMemory, SPAN_LIMIT};
 use export_trie::Export;
 use macho_image::Image;
 use nlist_table::Tables;
@@ -44,11 +45,11 @@ pub(crate) fn streams_size(
     alloc: Global,
     images: &[Image<'_>],
     exports: &[Vec<Export>],
-) -> Result<u64, SetFault>
+) -> Result<u64, SizeFault>
     requires one_each { length exports.now ≡ length images.now }
     requires writable { All (λ e. IsWritable e.items) exports.now }
-    ensures size { IfOk result (sizes.IsSize (end_behind 0 (lens_of (sizes.all_streams (map (λ e. e.items) exports.now) images.now)))) }
-    ensures cause { IfErr result (sizes.Exceeds (end_behind 0 (lens_of (sizes.all_streams (map (λ e. e.items) exports.now) images.now)))) }
+    ensures size { IfOk result (sizes.IsSize span_limit (end_behind 0 (lens_of (sizes.all_streams (map (λ e. e.items) exports.now) images.now)))) }
+    ensures cause { IfErr result (sizes.Exceeds span_limit (end_behind 0 (lens_of (sizes.all_streams (map (λ e. e.items) exports.now) images.now)))) }
 {
     let mut end = 0;
     for (number, image) in images.iter().enumerate() {
@@ -58,25 +59,25 @@ pub(crate) fn streams_size(
 }
 
 /// How many bytes the entries of all symbol tables have.
-pub(crate) fn symbols_size(tables: &[Tables<'_>]) -> Result<u64, SetFault>
-    ensures size { IfOk result (sizes.IsSize (sizes.symbols_size tables.now)) }
-    ensures cause { IfErr result (sizes.Exceeds (sizes.symbols_size tables.now)) }
+pub(crate) fn symbols_size(tables: &[Tables<'_>]) -> Result<u64, SizeFault>
+    ensures size { IfOk result (sizes.IsSize span_limit (sizes.symbols_size tables.now)) }
+    ensures cause { IfErr result (sizes.Exceeds span_limit (sizes.symbols_size tables.now)) }
 {
     let mut size = 0;
     for table in tables {
-        size = with_entries(size, table.symbols.len(), 16)?;
+        size = with_entries(size, table.symbols.len(), 16, SPAN_LIMIT)?;
     }
     Ok(size)
 }
 
 /// How many bytes the entries of all indirect tables have.
-pub(crate) fn indirect_size(tables: &[Tables<'_>]) -> Result<u64, SetFault>
-    ensures size { IfOk result (sizes.IsSize (sizes.indirect_size tables.now)) }
-    ensures cause { IfErr result (sizes.Exceeds (sizes.indirect_size tables.now)) }
+pub(crate) fn indirect_size(tables: &[Tables<'_>]) -> Result<u64, SizeFault>
+    ensures size { IfOk result (sizes.IsSize span_limit (sizes.indirect_size tables.now)) }
+    ensures cause { IfErr result (sizes.Exceeds span_limit (sizes.indirect_size tables.now)) }
 {
     let mut size = 0;
     for table in tables {
-        size = with_entries(size, table.indirect.len(), 4)?;
+        size = with_entries(size, table.indirect.len(), 4, SPAN_LIMIT)?;
     }
     Ok(size)
 }

@@ -15,6 +15,10 @@ mod streams;
 mod tables;
 
 pub use merging::merge;
+pub use parts::eight_up;
+pub use pool::{Pool, append_pool, pool_of};
+pub use sizes::{SizeFault, end_behind, with_entries};
+pub use tables::{append_entry, append_indices};
 
 #[cfg(test)]
 mod tests;

@@ -1,6 +1,7 @@
 // The parts of a linkedit that all images share.
 ghost use Rattle.std.specs.Prelude.{◌≡◌, ◌≤◌, ◌+◌, ◌++◌, ◌^◌, length, OnOk, IfOk};
 ghost use Rattle.std.specs.List.{flat_map};
+ghost use Rattle.dsc_base.specs.Limits.{span_limit};
 ghost use Rattle.dsc_base.specs.Numbers.{little_bytes};
 ghost use Rattle.linkedit_merge.specs.Conditions.{HaveTables, HaveMoves};
 ghost use Rattle.linkedit_merge.specs.Indices.{names_of, pool_len, IsPool};
@@ -41,7 +42,7 @@ fn append_all_symbols(
     tables: &[Tables<'_>],
     layout: &Layout,
 ) -> Result<(), NoMemory>
-    requires pool { IsPool pool.now }
+    requires pool { IsPool span_limit pool.now }
     requires few { length images.now ≤ 4097 }
     requires tables { HaveTables images.now tables.now }
     requires moves { HaveMoves images.now layout.now.moves }
@@ -72,7 +73,7 @@ pub(crate) fn put_symbols(
 ) -> Result<Span, NoMemory>
     requires start { start ≤ 2 ^ 32 }
     requires size { size ≡ symbols_size tables.now }
-    requires pool { IsPool pool.now }
+    requires pool { IsPool span_limit pool.now }
     requires few { length images.now ≤ 4097 }
     requires tables { HaveTables images.now tables.now }
     requires moves { HaveMoves images.now layout.now.moves }
@@ -106,7 +107,7 @@ pub(crate) fn put_indices(
 /// Puts the pool behind the other parts.
 pub(crate) fn put_pool(out: &mut Vec<u8>, start: u64, pool: &Pool<'_>) -> Result<Span, NoMemory>
     requires start { start ≤ 2 ^ 32 }
-    requires pool { IsPool pool.now }
+    requires pool { IsPool span_limit pool.now }
     ensures bytes { OnOk result (out.new.items ≡ with_part out.old.items (pool_bytes (names_of pool.now))) }
     ensures span { IfOk result (λ s. s ≡ span_behind start (length out.old.items) (pool_len (names_of pool.now))) }
 {

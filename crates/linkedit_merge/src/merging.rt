@@ -24,8 +24,8 @@ ghost use Rattle.linkedit_merge.specs.Written.{IsWritten};
 use crate::fields::read_fields;
 use crate::images::{indirect_size, move_all, put_all_streams, streams_size, symbols_size};
 use crate::merged::{put_indices, put_pool, put_symbols};
-use crate::pool::{Pool, pool_of};
-use crate::sizes::{end_behind, too_large};
+use crate::pool::{Pool, pool_of_all};
+use crate::sizes::{SizeFault, end_behind, too_large};
 use crate::spots::{Frame, all_spots};
 use crate::streams::StreamSpots;
 use cache_layout::Layout;
@@ -52,18 +52,18 @@ pub(crate) fn measure(
     exports: &[Vec<Export>],
     tables: &[Tables<'_>],
     pool_len: u64,
-) -> Result<Sizes, SetFault>
+) -> Result<Sizes, SizeFault>
     requires one_each { length exports.now ≡ length images.now }
     requires writable { All (λ e. IsWritable e.items) exports.now }
-    ensures symbols { IfOk result (λ s. size.IsSize (size.symbols_size tables.now) s.symbols) }
-    ensures indirect { IfOk result (λ s. size.IsSize (size.indirect_size tables.now) s.indirect) }
-    ensures whole { IfOk result (λ s. size.IsSize (size.whole_size (map (λ e. e.items) exports.now) images.now tables.now pool_len) s.whole) }
-    ensures cause { IfErr result (size.Exceeds (size.whole_size (map (λ e. e.items) exports.now) images.now tables.now pool_len)) }
+    ensures symbols { IfOk result (λ s. size.IsSize span_limit (size.symbols_size tables.now) s.symbols) }
+    ensures indirect { IfOk result (λ s. size.IsSize span_limit (size.indirect_size tables.now) s.indirect) }
+    ensures whole { IfOk result (λ s. size.IsSize span_limit (size.whole_size (map (λ e. e.items) exports.now) images.now tables.now pool_len) s.whole) }
+    ensures cause { IfErr result (size.Exceeds span_limit (size.whole_size (map (λ e. e.items) exports.now) images.now tables.now pool_len)) }
 {
     let symbols = symbols_size(tables)?;
     let indirect = indirect_size(tables)?;
     let streams = streams_size(alloc, images, exports)?;
-    let whole = end_behind(streams, &[symbols, indirect, pool_len])?;
+    let whole = end_behind(streams, &[symbols, indirect, pool_len], SPAN_LIMIT)?;
     Ok(Sizes {
         symbols,
         indirect,
@@ -92,14 +92,14 @@ fn write(
 ) -> Result<Written, NoMemory>
     requires start { start ≤ span_limit }
     requires whole { sizes.whole ≤ span_limit }
-    requires symbols { size.IsSize (size.symbols_size tables.now) sizes.symbols }
-    requires indirect { size.IsSize (size.indirect_size tables.now) sizes.indirect }
+    requires symbols { size.IsSize span_limit (size.symbols_size tables.now) sizes.symbols }
+    requires indirect { size.IsSize span_limit (size.indirect_size tables.now) sizes.indirect }
     requires one_each { length exports.now ≡ length images.now }
     requires writable { All (λ e. IsWritable e.items) exports.now }
     requires few { length images.now ≤ 4097 }
     requires tables { HaveTables images.now tables.now }
     requires moves { HaveMoves images.now layout.now.moves }
-    requires pool { IsPool pool.now }
+    requires pool { IsPool span_limit pool.now }
     ensures low { IfOk result (λ w. IsLow w.frame) }
     ensures tries { OnOk result (AreTries (map (λ e. e.items) exports.now) (length images.now)) }
     ensures written { IfOk result (IsWritten start sizes.whole (length images.now) (size.all_streams (map (λ e. e.items) exports.now) images.now) (spec.tables_in (names_of pool.now) (shares_of images.now tables.now layout.now.moves))) }
@@ -165,7 +165,7 @@ fn merge_images(
 {
     read_fields(tables);
     let exports = move_all(alloc, images, layout)?;
-    let pool = pool_of(alloc, tables)?;
+    let pool = pool_of_all(alloc, tables, SPAN_LIMIT)?;
     let sizes = measure(alloc, images, &exports, tables, pool.len)?;
     let start = linkedit_start(layout, slide_size);
     if start + page_up(sizes.whole) > SPAN_LIMIT {

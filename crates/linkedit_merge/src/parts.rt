@@ -5,7 +5,7 @@ ghost use Rattle.linkedit_merge.specs.Parts as spec;
 use dsc_base::{NoMemory, SetFault, Span};
 
 /// The least multiple of 8 that is not below a number of bytes.
-pub(crate) fn eight_up(size: u64) -> u64
+pub fn eight_up(size: u64) -> u64
     requires { size ≤ 2 ^ 63 }
     ensures value { result ≡ spec.eight_up size }
     ensures close { result ≤ size + 7 }

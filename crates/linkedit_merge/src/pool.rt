@@ -1,28 +1,29 @@
 // The string pool: each name once, with its index.
-ghost use Rattle.std.specs.Prelude.{◌≡◌, ◌≤◌, ◌<◌, ◌++◌, length, slice_index_or, ◌∷◌, [], false, OnOk, IfOk, IfErr, option_copied};
+ghost use Rattle.std.specs.Prelude.{◌≡◌, ◌≤◌, ◌<◌, ◌++◌, ◌^◌, length, slice_index_or, ◌∷◌, [], false, OnOk, IfOk, IfErr, option_copied};
 ghost use Rattle.std.specs.List.{list_any, flat_map};
 ghost use Rattle.macho_image.specs.Rules.{same_bytes};
 ghost use Rattle.nlist_table.specs.Symbols.{Tabs};
-ghost use Rattle.linkedit_merge.specs.Indices.{names_in, AreIndexed, names_of, pool_len, IsPool};
+ghost use Rattle.linkedit_merge.specs.Indices.{names_in, AreIndexed, HasIndices, names_of, pool_len, IsPool};
 ghost use Rattle.linkedit_merge.specs.Pool as spec;
 ghost use Rattle.linkedit_merge.specs.Sizes.{Exceeds};
 
-use crate::sizes::too_large;
-use dsc_base::{NoMemory, SPAN_LIMIT, SetFault};
+use crate::sizes::SizeFault;
+use dsc_base::NoMemory;
 use indexmap::IndexMap;
 use nlist_table::{Symbol, Tables};
 use std::alloc::Global;
 
-/// The names of a string pool, each with its index, in order, and how many bytes the pool has.
+/// The string pool of a linkedit: names that aren't empty, each once with its index, in the order of their first
+/// appearance. `len` is the number of the pool's bytes: a byte 0, and then each name with its NUL.
 #[derive(Drop)]
-pub(crate) struct Pool<'a> {
+pub struct Pool<'a> {
     indices: IndexMap<&'a [u8], u32>,
     pub len: u64,
 }
 
 /// A pool with nothing but the empty name.
 fn empty_pool<'a>(alloc: Global) -> Pool<'a>
-    ensures pool { IsPool result }
+    ensures pool { IsPool 1 result }
     ensures names { names_of result ≡ [] }
 {
     Pool {
@@ -57,18 +58,19 @@ fn is_pooled(pool: &Pool<'_>, name: &[u8]) -> bool
 }
 
 /// Puts a name into the pool, unless it is empty or there.
-fn put_name<'a>(pool: &mut Pool<'a>, name: &'a [u8]) -> Result<(), SetFault>
-    requires { IsPool pool.old }
-    ensures pool { OnOk result (IsPool pool.new) }
+fn put_name<'a>(pool: &mut Pool<'a>, name: &'a [u8], limit: u64) -> Result<(), SizeFault>
+    requires pool { IsPool limit pool.old }
+    requires limit { limit ≤ 2 ^ 31 }
+    ensures pool { OnOk result (IsPool limit pool.new) }
     ensures names { OnOk result (names_of pool.new ≡ spec.put_name (names_of pool.old) name.entry.now) }
-    ensures cause { IfErr result (Exceeds (pool_len (spec.put_name (names_of pool.old) name.entry.now))) }
+    ensures cause { IfErr result (Exceeds limit (pool_len (spec.put_name (names_of pool.old) name.entry.now))) }
 {
     if is_pooled(pool, name) {
         return Ok(());
     }
     let end = pool.len + name.len() as u64 + 1;
-    if end > SPAN_LIMIT {
-        return Err(SetFault::Broken(too_large()));
+    if end > limit {
+        return Err(SizeFault::TooLarge);
     }
     put_new(&mut pool.indices, name, pool.len as u32)?;
     pool.len = end;
@@ -80,59 +82,81 @@ fn put_both<'a>(
     pool: &mut Pool<'a>,
     name: &'a [u8],
     alias: Option<&'a [u8]>,
-) -> Result<(), SetFault>
-    requires { IsPool pool.old }
-    ensures pool { OnOk result (IsPool pool.new) }
+    limit: u64,
+) -> Result<(), SizeFault>
+    requires pool { IsPool limit pool.old }
+    requires limit { limit ≤ 2 ^ 31 }
+    ensures pool { OnOk result (IsPool limit pool.new) }
     ensures names { OnOk result (names_of pool.new ≡ spec.pooled_behind (names_of pool.old) (name.entry.now ∷ spec.alias_names (option_copied alias.entry))) }
-    ensures cause { IfErr result (Exceeds (pool_len (spec.pooled_behind (names_of pool.old) (name.entry.now ∷ spec.alias_names (option_copied alias.entry))))) }
+    ensures cause { IfErr result (Exceeds limit (pool_len (spec.pooled_behind (names_of pool.old) (name.entry.now ∷ spec.alias_names (option_copied alias.entry))))) }
 {
-    put_name(pool, name)?;
+    put_name(pool, name, limit)?;
     if let Some(alias) = alias {
-        put_name(pool, alias)?;
+        put_name(pool, alias, limit)?;
     }
     Ok(())
 }
 
 /// Puts the names of a symbol into the pool.
-fn put_symbol<'a>(pool: &mut Pool<'a>, symbol: &Symbol<'a>) -> Result<(), SetFault>
-    requires { IsPool pool.old }
-    ensures pool { OnOk result (IsPool pool.new) }
+fn put_symbol<'a>(pool: &mut Pool<'a>, symbol: &Symbol<'a>, limit: u64) -> Result<(), SizeFault>
+    requires pool { IsPool limit pool.old }
+    requires limit { limit ≤ 2 ^ 31 }
+    ensures pool { OnOk result (IsPool limit pool.new) }
     ensures names { OnOk result (names_of pool.new ≡ spec.pooled_behind (names_of pool.old) (spec.symbol_names symbol.now)) }
-    ensures cause { IfErr result (Exceeds (pool_len (spec.pooled_behind (names_of pool.old) (spec.symbol_names symbol.now)))) }
+    ensures cause { IfErr result (Exceeds limit (pool_len (spec.pooled_behind (names_of pool.old) (spec.symbol_names symbol.now)))) }
 {
-    put_both(pool, symbol.name, symbol.alias)
+    put_both(pool, symbol.name, symbol.alias, limit)
 }
 
 /// Puts the names of symbols into the pool.
-fn put_symbols<'a>(pool: &mut Pool<'a>, symbols: &[Symbol<'a>]) -> Result<(), SetFault>
-    requires { IsPool pool.old }
-    ensures pool { OnOk result (IsPool pool.new) }
+fn put_symbols<'a>(pool: &mut Pool<'a>, symbols: &[Symbol<'a>], limit: u64) -> Result<(), SizeFault>
+    requires pool { IsPool limit pool.old }
+    requires limit { limit ≤ 2 ^ 31 }
+    ensures pool { OnOk result (IsPool limit pool.new) }
     ensures names { OnOk result (names_of pool.new ≡ spec.pooled_behind (names_of pool.old) (flat_map spec.symbol_names symbols.now)) }
-    ensures cause { IfErr result (Exceeds (pool_len (spec.pooled_behind (names_of pool.old) (flat_map spec.symbol_names symbols.now)))) }
+    ensures cause { IfErr result (Exceeds limit (pool_len (spec.pooled_behind (names_of pool.old) (flat_map spec.symbol_names symbols.now)))) }
 {
     for symbol in symbols {
-        put_symbol(pool, symbol)?;
+        put_symbol(pool, symbol, limit)?;
     }
     Ok(())
 }
 
-/// The pool of the names of all symbols, in order.
-pub(crate) fn pool_of<'a>(alloc: Global, tables: &[Tables<'a>]) -> Result<Pool<'a>, SetFault>
-    ensures pool { IfOk result IsPool }
+/// The pool of the names of symbols, in order. `TooLarge` comes where it has more bytes than the limit, and
+/// `Memory` where memory ran out.
+pub fn pool_of<'a>(alloc: Global, symbols: &[Symbol<'a>], limit: u64) -> Result<Pool<'a>, SizeFault>
+    requires { (1 ≤ limit) × (limit ≤ 2 ^ 31) }
+    ensures pool { IfOk result (IsPool limit) }
+    ensures names { IfOk result (λ p. names_of p ≡ spec.pooled_behind [] (flat_map spec.symbol_names symbols.now)) }
+    ensures cause { IfErr result (Exceeds limit (pool_len (spec.pooled_behind [] (flat_map spec.symbol_names symbols.now)))) }
+{
+    let mut pool = empty_pool(alloc);
+    put_symbols(&mut pool, symbols, limit)?;
+    Ok(pool)
+}
+
+/// The same of all tables, one behind the other.
+pub(crate) fn pool_of_all<'a>(
+    alloc: Global,
+    tables: &[Tables<'a>],
+    limit: u64,
+) -> Result<Pool<'a>, SizeFault>
+    requires { (1 ≤ limit) × (limit ≤ 2 ^ 31) }
+    ensures pool { IfOk result (IsPool limit) }
     ensures names { IfOk result (λ p. names_of p ≡ spec.pooled_behind [] (flat_map spec.symbol_names (flat_map (λ t. t.symbols) tables.now))) }
-    ensures cause { IfErr result (Exceeds (pool_len (spec.pooled_behind [] (flat_map spec.symbol_names (flat_map (λ t. t.symbols) tables.now))))) }
+    ensures cause { IfErr result (Exceeds limit (pool_len (spec.pooled_behind [] (flat_map spec.symbol_names (flat_map (λ t. t.symbols) tables.now))))) }
 {
     let mut pool = empty_pool(alloc);
     for table in tables {
-        put_symbols(&mut pool, &table.symbols)?;
+        put_symbols(&mut pool, &table.symbols, limit)?;
     }
     Ok(pool)
 }
 
 impl<'a> Pool<'a> {
     /// The index of a name; 0 for the empty one.
-    pub(crate) fn index_of(&self, name: &[u8]) -> u32
-        requires { IsPool self.now }
+    pub fn index_of(&self, name: &[u8]) -> u32
+        requires { HasIndices self.now }
         ensures { result ≡ spec.index_in (names_of self.now) name.now }
     {
         self.indices.get(name).copied().unwrap_or(0)
@@ -159,9 +183,9 @@ fn name_at<'p>(pool: &'p Pool<'_>, number: usize) -> &'p [u8]
     }
 }
 
-/// Appends the bytes of a pool.
+/// Appends the bytes of a pool. `NoMemory` says that memory ran out.
 #[tactic(auto, unfolding(crate::specs::Pool::pool_bytes))]
-pub(crate) fn append_pool(out: &mut Vec<u8>, pool: &Pool<'_>) -> Result<(), NoMemory>
+pub fn append_pool(out: &mut Vec<u8>, pool: &Pool<'_>) -> Result<(), NoMemory>
     ensures { OnOk result (out.new.items ≡ out.old.items ++ spec.pool_bytes (names_of pool.now)) }
 {
     out.push(0)?;

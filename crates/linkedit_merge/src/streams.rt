@@ -7,8 +7,8 @@ ghost use Rattle.linkedit_merge.specs.ReadBack.{IsTrie};
 ghost use Rattle.linkedit_merge.specs.Sizes.{IsSize, Exceeds, own_streams, spans_of};
 
 use crate::parts::{put_part, span_behind};
-use crate::sizes::end_behind;
-use dsc_base::{NoMemory, SetFault, Span};
+use crate::sizes::{SizeFault, end_behind};
+use dsc_base::{NoMemory, SPAN_LIMIT, Span};
 use export_trie::{Export, trie_len, write_trie};
 use macho_image::Streams;
 use std::alloc::Global;
@@ -29,11 +29,11 @@ pub(crate) fn streams_end(
     before: u64,
     streams: &Streams<'_>,
     exports: &[Export],
-) -> Result<u64, SetFault>
+) -> Result<u64, SizeFault>
     requires before { before ≤ span_limit }
     requires writable { IsWritable exports.now }
-    ensures size { IfOk result (IsSize (parts.end_behind before (parts.lens_of (own_streams streams.now exports.now)))) }
-    ensures cause { IfErr result (Exceeds (parts.end_behind before (parts.lens_of (own_streams streams.now exports.now)))) }
+    ensures size { IfOk result (IsSize span_limit (parts.end_behind before (parts.lens_of (own_streams streams.now exports.now)))) }
+    ensures cause { IfErr result (Exceeds span_limit (parts.end_behind before (parts.lens_of (own_streams streams.now exports.now)))) }
 {
     let lens = [
         streams.bind.len() as u64,
@@ -42,7 +42,7 @@ pub(crate) fn streams_end(
         streams.function_starts.len() as u64,
         streams.data_in_code.len() as u64,
     ];
-    end_behind(before, &lens)
+    end_behind(before, &lens, SPAN_LIMIT)
 }
 
 /// Puts a part behind the others; gives its range in the file, where the linkedit starts at a place.

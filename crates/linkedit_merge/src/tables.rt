@@ -1,6 +1,7 @@
 // The symbol tables of the images in a linkedit.
 ghost use Rattle.std.specs.Prelude.{◌≡◌, ◌++◌, length, map, All, OnOk};
 ghost use Rattle.std.specs.List.{flat_map};
+ghost use Rattle.dsc_base.specs.Limits.{span_limit};
 ghost use Rattle.dsc_base.specs.Numbers.{little_bytes};
 ghost use Rattle.dsc_base.specs.Region.{padded};
 ghost use Rattle.nlist_table.specs.Kept.{IsSymbol};
@@ -26,8 +27,9 @@ pub(crate) fn align(out: &mut Vec<u8>) -> Result<(), NoMemory>
     Ok(())
 }
 
-/// Appends the `nlist_64` of a symbol, with this index of its name and this value.
-fn append_entry(
+/// Appends the `nlist_64` of a symbol, with this index of its name and this value. `NoMemory` says that memory
+/// ran out.
+pub fn append_entry(
     out: &mut Vec<u8>,
     strx: u32,
     symbol: &Symbol<'_>,
@@ -45,7 +47,7 @@ fn append_entry(
 /// The value of a symbol in its entry: the index of the name that it is another name for, or its value where
 /// its segment goes.
 fn value_of(pool: &Pool<'_>, symbol: &Symbol<'_>, image: &Image<'_>, moves: &Moves) -> u64
-    requires pool { IsPool pool.now }
+    requires pool { IsPool span_limit pool.now }
     requires symbol { IsSymbol (length image.now.sections) symbol.now }
     requires moves { length moves.now ≡ length image.now.segments }
     ensures { result ≡ spec.entry_value (names_of pool.now) symbol.now.alias (moved_symbol image.now moves.now symbol.now).value }
@@ -64,7 +66,7 @@ fn append_symbol(
     image: &Image<'_>,
     moves: &Moves,
 ) -> Result<(), NoMemory>
-    requires pool { IsPool pool.now }
+    requires pool { IsPool span_limit pool.now }
     requires symbol { IsSymbol (length image.now.sections) symbol.now }
     requires moves { length moves.now ≡ length image.now.segments }
     ensures { OnOk result (out.new.items ≡ out.old.items ++ spec.symbol_bytes (names_of pool.now) (moved_symbol image.now moves.now symbol.now)) }
@@ -82,7 +84,7 @@ pub(crate) fn append_symbols(
     image: &Image<'_>,
     moves: &Moves,
 ) -> Result<(), NoMemory>
-    requires pool { IsPool pool.now }
+    requires pool { IsPool span_limit pool.now }
     requires symbols { All (IsSymbol (length image.now.sections)) symbols.now }
     requires moves { length moves.now ≡ length image.now.segments }
     ensures { OnOk result (out.new.items ≡ out.old.items ++ flat_map (spec.symbol_bytes (names_of pool.now)) (map (moved_symbol image.now moves.now) symbols.now)) }
@@ -93,8 +95,8 @@ pub(crate) fn append_symbols(
     Ok(())
 }
 
-/// Appends the entries of an indirect table.
-pub(crate) fn append_indices(out: &mut Vec<u8>, indices: &[u32]) -> Result<(), NoMemory>
+/// Appends the entries of an indirect table, 4 bytes each. `NoMemory` says that memory ran out.
+pub fn append_indices(out: &mut Vec<u8>, indices: &[u32]) -> Result<(), NoMemory>
     ensures { OnOk result (out.new.items ≡ out.old.items ++ flat_map (little_bytes 4) indices.now) }
 {
     for index in indices {

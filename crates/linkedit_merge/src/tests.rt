@@ -1,4 +1,4 @@
-// The linkedit of one small dylib, and of two that share their names.
+// The linkedit of one small dylib, and of two that share their names; and a pool by itself.
 ghost use Rattle.std.specs.Prelude.{◌≡◌, ◌<◌, ◌≤◌, None, length, map, All, IfOk, OnOk, IfSome};
 ghost use Rattle.nlist_table.specs.Kept.{AreTables};
 ghost use Rattle.cache_layout.specs.Layouts.{layout_of, layout_break};
@@ -6,14 +6,15 @@ ghost use Rattle.prebind.specs.Agree.{HaveExportsInside};
 ghost use Rattle.prebind.specs.Sets.{lists_of, streams_break, IsSoundSet};
 ghost use Rattle.prebind.specs.Steps.{set_of};
 ghost use Rattle.linkedit_merge.specs.Conditions.{HaveTables};
+ghost use Rattle.linkedit_merge.specs.Indices.{HasIndices};
 
 use super::*;
 use cache_layout::{Layout, lay_out};
 use dep_closure::link_set;
-use dsc_base::{Break, Rule, SetFault};
+use dsc_base::{Break, NoMemory, Rule, SetFault};
 use macho_edit::LinkSpots;
 use macho_image::{Image, read_images};
-use nlist_table::{Tables, read_tables};
+use nlist_table::{Symbol, Tables, read_tables};
 use prebind::{ImageStreams, Set, check_exports, read_all_streams};
 use sample_dylibs::{put_numbers, symbols_dylib};
 use std::alloc::Global;
@@ -208,6 +209,47 @@ fn small_linkedits(rt: HostRuntime) -> Result<(), Fail> {
         for spot in &spots {
             assert_eq!(rt; (spot.strings.at, spot.strings.len), (at, len));
         }
+    }
+    Ok(())
+}
+
+// The pool of `_a` and `_b`, the entry of `_b`, and an index.
+const POOLED: [u8; 27] = *b"\0_a\0_b\0\x04\0\0\0\x0f\x01\0\0\x09\0\0\0\0\0\0\0\x05\0\0\0";
+
+fn symbol_of<'a>(name: &'a [u8], alias: Option<&'a [u8]>) -> Symbol<'a> {
+    Symbol {
+        name,
+        alias,
+        kind: 0x0f,
+        section: 1,
+        desc: 0,
+        value: 0x800,
+    }
+}
+
+fn pooled(alloc: Global, pool: &Pool<'_>, symbol: &Symbol<'_>) -> Result<Vec<u8>, NoMemory>
+    requires { HasIndices pool.now }
+{
+    let mut out = Vec::new(alloc);
+    append_pool(&mut out, pool)?;
+    append_entry(&mut out, pool.index_of(symbol.name), symbol, 9)?;
+    append_indices(&mut out, &[5])?;
+    Ok(out)
+}
+
+#[test]
+fn a_name_is_pooled_once(rt: HostRuntime) -> Result<(), Fail> {
+    let alloc = rt.alloc();
+    let symbols = [symbol_of(b"_a", None), symbol_of(b"_b", Some(b"_a"))];
+    assert!(rt; matches!(pool_of(alloc, &symbols, 6), Err(SizeFault::TooLarge)));
+    match pool_of(alloc, &symbols, 7) {
+        Ok(pool) => {
+            let bytes = pooled(alloc, &pool, &symbols[1])
+                .ok()
+                .ok_or("the pool is appended")?;
+            assert_eq!(rt; bytes.as_slice(), POOLED.as_slice());
+        }
+        Err(_) => Err("the names are pooled")?,
     }
     Ok(())
 }

@@ -15,10 +15,6 @@ use Rattle.load_model.specs.Areas.{IsArea, AreAreas}
 use Rattle.load_model.proofs.NumberLaws.{address_on, number_there, byte_apart, number_from-bytes}
 use Rattle.load_model.proofs.LoadingLaws.{KeepApart, IsLow, AreApartFrom, AreApart, length-in_memory, low_at, loaded_cell}
 
--- an address that is counted in two steps
-pub place_number : (start distance addend : ℕ) → wrap (start + wrap (distance + addend)) ≡ wrap (wrap (start + distance) + addend)
-place_number start distance addend = omega arith
-
 -- ---- lists of bytes
 
 pub contents_set : (vs : List (Vec ℕ Global)) (i : ℕ) (y : Vec ℕ Global) (bytes : List ℕ) → y.items ≡ bytes → contents (slice_set vs i y) ≡ slice_set (contents vs) i bytes

@@ -1,13 +1,14 @@
 pub mod AcceptedFiles
+pub mod AwayLaws
 pub mod BoundLaws
 pub mod CellLaws
+pub mod EachLaws
 pub mod FilesLaws
 pub mod FirstLaws
 pub mod LinkeditLaws
 pub mod LoadingLaws
 pub mod MappedLaws
 pub mod NumberLaws
-pub mod PlacedLaws
 pub mod RebasedLaws
 pub mod ShapeLaws
 pub mod SoundSets

@@ -2,7 +2,7 @@
 use Rattle.std.proofs.Common.{◌≡◌, ◌≤◌, ◌<◌, ℕ, zero, suc, ◌+◌, Option, Some, None, List, [], ◌∷◌, ◌++◌, map, take, drop, length, get_or, refl, sym, ap, ap₂, ◌∙◌, subst}
 use Rattle.std.specs.Prelude.{option_map, slice_get}
 use Rattle.std.specs.Option.{option_or}
-use Rattle.std.proofs.lemmas.List.{drop_more, drop_all, take_more, map-append}
+use Rattle.std.proofs.lemmas.List.{drop_more, drop_all}
 use Rattle.dsc_base.specs.declared.fault.Site.{Site}
 use Rattle.dsc_base.specs.declared.fault.Break.{Break}
 use Rattle.dsc_base.specs.declared.fault.Fault.{Fault}
@@ -14,6 +14,7 @@ use Rattle.macho_image.specs.Records.{Img}
 use Rattle.macho_image.specs.TableRules.{table_break}
 use Rattle.nlist_table.specs.Symbols.{Tabs, tables_of}
 use Rattle.prebind.specs.Sets.{StreamLists, lists_of, streams_break}
+use Rattle.prebind.proofs.ListLaws.{mapped_more}
 use Rattle.prebind.proofs.SetLaws.{HaveStreams}
 use Rattle.load_model.specs.Sums.{record_count, name_bytes, sums_break}
 use Rattle.load_model.specs.Phases.{linkedit_break, linkedits_from}
@@ -34,11 +35,6 @@ unfolding linkedits_from
 step images streams tables records names n i read lt at =
     sym (ap (λ (is : List Img). linkedits_from n records names is) (drop_more images n i lt ∙ ap (λ (j : Img). j ∷ drop (n + 1) images) (sym at))) ∙ read.rest
 
-grown_by : {X : Type 0} (f : Img → X) (images : List Img) (n : ℕ) (i : Img) (xs xs' : List X) (x : X) → n < length images → i ≡ get_or images n i → xs ≡ map f (take n images) → x ≡ f i → xs' ≡ xs ++ x ∷ [] → xs' ≡ map f (take (n + 1) images)
-grown_by {X = X} f images n i xs xs' x lt at old new grown =
-    let more : take (n + 1) images ≡ take n images ++ i ∷ [] = take_more images n i lt ∙ ap (λ (j : Img). take n images ++ j ∷ []) (sym at) in
-    grown ∙ (ap₂ (λ (l : List X) (y : X). l ++ y ∷ []) old new ∙ (sym (map-append f (take n images) (i ∷ [])) ∙ sym (ap (λ (is : List Img). map f is) more)))
-
 pub linkedits_more : (images : List Img) (streams streams' : List StreamLists) (tables tables' : List Tabs) (records names records' names' n : ℕ) (i : Img) (s : StreamLists) (t : Tabs)
     → AreLinkedits images streams tables records names n → n < length images → i ≡ get_or images n i → linkedit_break records names i ≡ None → s ≡ lists_of i → t ≡ tables_of i
     → records' ≡ records + record_count i → names' ≡ names + name_bytes i → records' ≤ set_record_limit → names' ≤ export_names_limit → streams' ≡ streams ++ s ∷ [] → tables' ≡ tables ++ t ∷ []
@@ -46,8 +42,8 @@ pub linkedits_more : (images : List Img) (streams streams' : List StreamLists) (
 linkedits_more images streams streams' tables tables' records names records' names' n i s t read lt at none s_is t_is counted named few short streams_grown tables_grown =
     let rest : List Img = drop (n + 1) images in
     record {
-      streams_are = grown_by lists_of images n i streams streams' s lt at read.streams_are s_is streams_grown;
-      tables_are = grown_by tables_of images n i tables tables' t lt at read.tables_are t_is tables_grown;
+      streams_are = mapped_more lists_of images n i streams streams' s lt at read.streams_are s_is streams_grown;
+      tables_are = mapped_more tables_of images n i tables tables' t lt at read.tables_are t_is tables_grown;
       few = few;
       short = short;
       rest =

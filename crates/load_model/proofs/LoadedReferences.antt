@@ -75,7 +75,7 @@ reference_accepted i s r sound streams there = elim streams.references [
 
 -- ---- they share no byte with a word
 
-not_met : (words : List Location) (r : Reference) (l : Location) → meets_word words r ≡ false → IsIn words l → shares r.from (width_of r.kind) l.address 8 ≡ false
+pub not_met : (words : List Location) (r : Reference) (l : Location) → meets_word words r ≡ false → IsIn words l → shares r.from (width_of r.kind) l.address 8 ≡ false
 not_met [] r l none there = absurd (in_none l there)
 not_met (m ∷ ms) r l none there =
     let two = or_parts (shares r.from (width_of r.kind) m.address 8) (meets_word ms r) none in
@@ -84,7 +84,7 @@ not_met (m ∷ ms) r l none there =
       | inr later ↦ not_met ms r l two.1 later
     ]
 
-apart_byte : (from width a n : ℕ) → shares from width a 8 ≡ false → n < width → (from + n < a) ⊎ (a + 8 ≤ from + n)
+pub apart_byte : (from width a n : ℕ) → shares from width a 8 ≡ false → n < width → (from + n < a) ⊎ (a + 8 ≤ from + n)
 apart_byte from width a n none lt = elim (cases_lt (from + n) a) [
   | inl before ↦ inl before
   | inr behind ↦ elim (cases_lt (from + n) (a + 8)) [
@@ -96,7 +96,7 @@ apart_byte from width a n none lt = elim (cases_lt (from + n) a) [
   ]
 ]
 
-no_word : (rebases bound : List Location) (r : Reference) → is_pointer r.kind ≡ false → strays rebases bound r ≡ false → (meets_word rebases r ≡ false) × (meets_word bound r ≡ false)
+pub no_word : (rebases bound : List Location) (r : Reference) → is_pointer r.kind ≡ false → strays rebases bound r ≡ false → (meets_word rebases r ≡ false) × (meets_word bound r ≡ false)
 no_word rebases bound r other none = at (is_pointer r.kind) (meets_word rebases r) (meets_word bound r) other none
   where
     at : (p a b : Bool) → p ≡ false → not p && (a || b) ≡ false → (a ≡ false) × (b ≡ false)

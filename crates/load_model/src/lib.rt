@@ -10,7 +10,7 @@ mod symbols;
 #[cfg(test)]
 mod tests;
 
-pub use linkedits::{check_sums, names_with};
+pub use linkedits::{Totals, total_with};
 pub use loaded::LoadedSegment;
 pub use loading::load_image;
 pub use set::{FileSet, read_files};

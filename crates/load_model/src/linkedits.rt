@@ -14,14 +14,19 @@ use nlist_table::{Tables, read_tables};
 use prebind::{ImageStreams, read_streams};
 use std::alloc::Global;
 
-/// What is read of an image's linkedit; and how many records the streams of the images up to it have, and
-/// how many bytes the names that these images export.
+/// How many records the streams of some images have together, and how many bytes the names that these export.
+#[derive(Clone, Copy, Debug, PartialEq, Eq)]
+pub struct Totals {
+    pub records: u64,
+    pub names: u64,
+}
+
+/// What is read of an image's linkedit, and the totals of the images up to it.
 #[derive(Drop)]
 struct Linkedit<'a> {
     streams: ImageStreams<'a>,
     tables: Tables<'a>,
-    records: u64,
-    names: u64,
+    totals: Totals,
 }
 
 /// How many records streams have behind others; no more than a number has room for.
@@ -34,7 +39,7 @@ fn records_with(before: u64, streams: &ImageStreams<'_>) -> u64
 }
 
 /// How many bytes the names of exports have behind others; no more than a number has room for.
-pub fn names_with(before: u64, exports: &[Export]) -> u64
+fn names_with(before: u64, exports: &[Export]) -> u64
     ensures { result ≡ min (before + sums.bytes_in exports.now) (2 ^ 64 - 1) }
 {
     let mut total = before;
@@ -47,7 +52,7 @@ pub fn names_with(before: u64, exports: &[Export]) -> u64
 /// Refuses `SetTooLarge` where so many records, or names of so many bytes, are more than the images up to one
 /// may have together.
 #[tactic(auto, unfolding(crate::specs::Sums::sums_break))]
-pub fn check_sums(records: u64, names: u64) -> Result<(), Fault>
+fn check_sums(records: u64, names: u64) -> Result<(), Fault>
     ensures { Refuses (sums.sums_break records names) result }
 {
     if records > SET_RECORD_LIMIT || names > EXPORT_NAMES_LIMIT {
@@ -59,37 +64,53 @@ pub fn check_sums(records: u64, names: u64) -> Result<(), Fault>
     Ok(())
 }
 
-/// The linkedit of an image behind images with so many records, and names of so many bytes.
+/// The totals of images with one more behind them, which has these streams and exports.
+///
+/// Refuses `SetTooLarge` where they are more than the images up to one may have together. It takes no memory.
+pub fn total_with(
+    before: Totals,
+    streams: &ImageStreams<'_>,
+    exports: &[Export],
+) -> Result<Totals, Fault>
+    ensures records { IfOk result (λ t. t.records ≡ before.records + sums.count_in streams.now) }
+    ensures names { IfOk result (λ t. t.names ≡ before.names + sums.bytes_in exports.now) }
+    ensures few { IfOk result (λ t. t.records ≤ set_record_limit) }
+    ensures short { IfOk result (λ t. t.names ≤ export_names_limit) }
+    ensures cause { Refuses (sums.sums_break (before.records + sums.count_in streams.now) (before.names + sums.bytes_in exports.now)) result }
+{
+    let records = records_with(before.records, streams);
+    let names = names_with(before.names, exports);
+    match check_sums(records, names) {
+        Ok(()) => Ok(Totals { records, names }),
+        Err(fault) => Err(fault),
+    }
+}
+
+/// The linkedit of an image behind images with these totals.
 #[tactic(auto, unfolding(crate::specs::Phases::linkedit_break))]
 fn read_linkedit<'a>(
     alloc: Global,
     image: &Image<'a>,
-    records: u64,
-    names: u64,
+    before: Totals,
 ) -> Result<Linkedit<'a>, Fault>
-    requires records { records ≤ set_record_limit }
-    requires names { names ≤ export_names_limit }
     ensures streams { IfOk result (λ l. l.streams ≡ lists_of image.now) }
     ensures tables { IfOk result (λ l. l.tables ≡ tables_of image.now) }
-    ensures records { IfOk result (λ l. l.records ≡ records + sums.record_count image.now) }
-    ensures names { IfOk result (λ l. l.names ≡ names + sums.name_bytes image.now) }
-    ensures few { IfOk result (λ l. l.records ≤ set_record_limit) }
-    ensures short { IfOk result (λ l. l.names ≤ export_names_limit) }
-    ensures cause { Refuses (spec.linkedit_break records names image.now) result }
+    ensures records { IfOk result (λ l. l.totals.records ≡ before.records + sums.record_count image.now) }
+    ensures names { IfOk result (λ l. l.totals.names ≡ before.names + sums.name_bytes image.now) }
+    ensures few { IfOk result (λ l. l.totals.records ≤ set_record_limit) }
+    ensures short { IfOk result (λ l. l.totals.names ≤ export_names_limit) }
+    ensures cause { Refuses (spec.linkedit_break before.records before.names image.now) result }
 {
     let (streams, exports) = read_streams(alloc, image)?;
     let tables = read_tables(alloc, image)?;
-    let records = records_with(records, &streams);
-    let names = names_with(names, &exports);
-    match check_sums(records, names) {
-        Ok(()) => {}
+    let totals = match total_with(before, &streams, &exports) {
+        Ok(totals) => totals,
         Err(fault) => return Err(fault),
-    }
+    };
     Ok(Linkedit {
         streams,
         tables,
-        records,
-        names,
+        totals,
     })
 }
 
@@ -105,13 +126,14 @@ pub(crate) fn read_linkedits<'a>(
 {
     let mut streams = Vec::with_capacity(alloc, images.len())?;
     let mut tables = Vec::with_capacity(alloc, images.len())?;
-    let mut records = 0;
-    let mut names = 0;
+    let mut totals = Totals {
+        records: 0,
+        names: 0,
+    };
     for (number, image) in images.iter().enumerate() {
-        match read_linkedit(alloc, image, records, names) {
+        match read_linkedit(alloc, image, totals) {
             Ok(linkedit) => {
-                records = linkedit.records;
-                names = linkedit.names;
+                totals = linkedit.totals;
                 streams.push(linkedit.streams)?;
                 tables.push(linkedit.tables)?;
             }

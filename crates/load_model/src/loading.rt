@@ -10,7 +10,6 @@ ghost use Rattle.dsc_base.specs.Numbers.{number_at, put_number};
 ghost use Rattle.macho_image.specs.Places.{wrap, IsWord};
 ghost use Rattle.prebind.specs.Steps.{set_of};
 ghost use Rattle.prebind.specs.Numbers.{number_to};
-ghost use Rattle.prebind.specs.Targets.{bound_target};
 ghost use Rattle.split_info.specs.declared.reference.RefKind.TheVariants.{Pointer64};
 ghost use Rattle.macho_image.specs.Breaks.{IsSound};
 ghost use Rattle.macho_image.specs.Order.{addresses_of};
@@ -20,9 +19,9 @@ ghost use Rattle.load_model.specs.Loading.{in_memory, loaded_starts, segment_cel
 
 use crate::loaded::LoadedSegment;
 use bind_ops::Bind;
-use dsc_base::{Fault, NoMemory, Rule, SetFault, Site, put_u64, read_u64};
+use dsc_base::{Fault, NoMemory, SetFault, put_u64, read_u64};
 use macho_image::{Image, Location, Segment};
-use prebind::{ImageStreams, Resolved, Set, resolve};
+use prebind::{ImageStreams, Set, WordTarget, place_resolved, resolve};
 use std::alloc::Global;
 use std::mem::replace;
 
@@ -41,24 +40,18 @@ fn start_at(set: &Set<'_, '_>, slides: &[u64], image: u32, segment: u32) -> u64
     start.wrapping_add(slide)
 }
 
-/// The number that leads a bound word to where its symbol does.
-#[tactic(auto, unfolding(prebind::specs::Numbers::number_to, prebind::specs::Numbers::counted_to, prebind::specs::Numbers::cut_to), using(crate::proofs::AreaLaws::place_number))]
-fn bound_number(set: &Set<'_, '_>, slides: &[u64], addend: i64, outcome: Resolved) -> u64
-    ensures { result ≡ number_to (loaded_starts (set_of set.now) (slide_at slides.now)) 0 0 Pointer64 (bound_target addend outcome) }
+/// The number that leads a pointer to a target.
+#[tactic(auto, unfolding(prebind::specs::Numbers::number_to, prebind::specs::Numbers::counted_to, prebind::specs::Numbers::cut_to))]
+fn target_number(set: &Set<'_, '_>, slides: &[u64], target: WordTarget) -> u64
+    ensures { result ≡ number_to (loaded_starts (set_of set.now) (slide_at slides.now)) 0 0 Pointer64 target }
 {
-    match outcome {
-        Resolved::Place {
+    match target {
+        WordTarget::Place {
             image,
             segment,
             distance,
-        } => {
-            let start = start_at(set, slides, image, segment);
-            start
-                .wrapping_add(distance)
-                .wrapping_add(addend.cast_unsigned())
-        }
-        Resolved::Constant(number) => number.wrapping_add(addend.cast_unsigned()),
-        _ => addend.cast_unsigned(),
+        } => start_at(set, slides, image, segment).wrapping_add(distance),
+        WordTarget::Constant(number) => number,
     }
 }
 
@@ -105,24 +98,6 @@ fn raise_word(areas: &mut Vec<Vec<u8>>, segment: usize, at: usize, slide: u64)
     put_word(areas, segment, at, number.wrapping_add(slide));
 }
 
-/// The rule that a bind breaks whose symbol has this outcome.
-fn outcome_fault(weak: bool, outcome: Resolved) -> Option<Rule>
-    ensures { result ≡ rules.outcome_fault weak outcome }
-{
-    match outcome {
-        Resolved::BadOrdinal => Some(Rule::BadOrdinal),
-        Resolved::Loop => Some(Rule::ReexportLoop),
-        Resolved::Absent => {
-            if weak {
-                None
-            } else {
-                Some(Rule::UnresolvedSymbol)
-            }
-        }
-        _ => None,
-    }
-}
-
 /// The number to which a bind of an image sets its word, or the rule that it breaks.
 fn bind_number(
     alloc: Global,
@@ -138,13 +113,8 @@ fn bind_number(
     ensures cause { Refuses (rules.bind_fault (set_of set.now) image index bind.now) result }
 {
     let outcome = resolve(alloc, set, image, bind.ordinal, bind.name)?;
-    match outcome_fault(bind.weak, outcome) {
-        Some(rule) => Err(Fault::Broken(Site {
-            rule,
-            at: index as u64,
-        })),
-        None => Ok(bound_number(set, slides, bind.addend, outcome)),
-    }
+    let word = place_resolved(index, bind, outcome)?;
+    Ok(target_number(set, slides, word.target))
 }
 
 /// Raises the number at each rebase of an image.

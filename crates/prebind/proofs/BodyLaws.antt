@@ -10,7 +10,7 @@ use Rattle.macho_image.specs.declared.places.segment_index.Inside.{Inside}
 use Rattle.macho_image.specs.declared.place.Location.{Location}
 use Rattle.macho_image.specs.Segments.{contains, inside_from, inside, number_of, number_within, value_of}
 use Rattle.macho_image.proofs.NumberLaws.{number_past}
-use Rattle.prebind.specs.Framed.{covers}
+use Rattle.prebind.specs.Indexed.{bare_segment}
 use Rattle.prebind.specs.Bodies.{linkedit_at, whole_of, is_body}
 use Rattle.prebind.specs.Places.{is_linkedit_at}
 
@@ -36,13 +36,13 @@ inside-last ss s x = inside_from-last 0 ss s x ∙ ap (λ (n : ℕ). option_or (
 pub inside_body : (ss : List Seg) (linkedit : Span) (x : ℕ) (p : Inside) → Some p ≡ inside ss x → Some p ≡ inside (whole_of ss linkedit) x
 inside_body ss linkedit x p is = sym (inside-last ss (linkedit_at linkedit) x ∙ ap (λ (o : Option Inside). option_or o (behind (length ss) (linkedit_at linkedit) x)) (sym is))
 
-pub inside_linkedit : (ss : List Seg) (linkedit : Span) (x : ℕ) → None ≡ inside ss x → covers linkedit x ≡ true → Some (record { segment = length ss; distance = x - linkedit.at }) ≡ inside (whole_of ss linkedit) x
+pub inside_linkedit : (ss : List Seg) (linkedit : Span) (x : ℕ) → None ≡ inside ss x → contains (bare_segment linkedit) x ≡ true → Some (record { segment = length ss; distance = x - linkedit.at }) ≡ inside (whole_of ss linkedit) x
 inside_linkedit ss linkedit x none has =
     sym (inside-last ss (linkedit_at linkedit) x
     ∙ (ap (λ (o : Option Inside). option_or o (behind (length ss) (linkedit_at linkedit) x)) (sym none)
     ∙ ap (λ (b : Bool). if b then Some (record { segment = length ss; distance = x - linkedit.at }) else None) has))
 
-pub inside_neither : (ss : List Seg) (linkedit : Span) (x : ℕ) → None ≡ inside ss x → covers linkedit x ≡ false → None ≡ inside (whole_of ss linkedit) x
+pub inside_neither : (ss : List Seg) (linkedit : Span) (x : ℕ) → None ≡ inside ss x → contains (bare_segment linkedit) x ≡ false → None ≡ inside (whole_of ss linkedit) x
 inside_neither ss linkedit x none lacks =
     sym (inside-last ss (linkedit_at linkedit) x
     ∙ (ap (λ (o : Option Inside). option_or o (behind (length ss) (linkedit_at linkedit) x)) (sym none)

@@ -9,27 +9,28 @@ use Rattle.export_trie.specs.declared.export.Target.{Target}
 use Rattle.export_trie.specs.declared.export.Target.TheVariants.{Offset, Absolute, Reexport}
 use Rattle.prebind.specs.Places.{address_of_export}
 use Rattle.prebind.specs.Resolves.{Ends, place_of, target_step, found_step}
-use Rattle.prebind.specs.Indexed.{span_of, FrameOf, frame_of}
-use Rattle.prebind.specs.Framed.{within_from, within, framed_step, frame_in, framed_found}
+use Rattle.prebind.specs.Indexed.{span_of, bare_segment, FrameOf, frame_of}
+use Rattle.prebind.specs.Framed.{framed_step, frame_in, framed_found}
 
-within_from_is : (g : ℕ) (ss : List Seg) (x : ℕ) → within_from g (map span_of ss) x ≡ inside_from g ss x
-within_from_is g [] x = refl
-within_from_is g (s ∷ ss) x =
-    ap (λ (o : Option Inside). if contains s x then Some (record { segment = g; distance = x - s.vmaddr }) else o) (within_from_is (g + 1) ss x)
+-- by addresses alone the same segment contains an address
+inside_from_is : (g : ℕ) (ss : List Seg) (x : ℕ) → inside_from g (map bare_segment (map span_of ss)) x ≡ inside_from g ss x
+inside_from_is g [] x = refl
+inside_from_is g (s ∷ ss) x =
+    ap (λ (o : Option Inside). if contains s x then Some (record { segment = g; distance = x - s.vmaddr }) else o) (inside_from_is (g + 1) ss x)
 
-pub within_is : (ss : List Seg) (x : ℕ) → within (map span_of ss) x ≡ inside ss x
-unfolding within inside
-within_is ss x = within_from_is 0 ss x
+pub inside_is : (ss : List Seg) (x : ℕ) → inside (map bare_segment (map span_of ss)) x ≡ inside ss x
+unfolding inside
+inside_is ss x = inside_from_is 0 ss x
 
 framed_target : (image : Img) (k : ℕ) (t : Target) → framed_step (frame_of image) k t ≡ target_step image.segments k t
 framed_target image k (Offset offset) =
     let x : ℕ = address_of_export image.segments offset in
-    ap (λ (o : Option Inside). Ends (place_of k x o)) (within_is image.segments x)
+    ap (λ (o : Option Inside). Ends (place_of k x o)) (inside_is image.segments x)
 framed_target image k (Absolute value) = refl
 framed_target image k (Reexport ordinal name) = refl
 
 framed_nowhere : (k : ℕ) (t : Target) → framed_step (frame_in None) k t ≡ target_step [] k t
-unfolding within inside header_address
+unfolding inside header_address
 framed_nowhere k (Offset offset) = refl
 framed_nowhere k (Absolute value) = refl
 framed_nowhere k (Reexport ordinal name) = refl

@@ -19,6 +19,7 @@ pub mod PlacedLists
 pub mod ProbeLaws
 pub mod ResolveLaws
 pub mod SameLaws
+pub mod SectionHomes
 pub mod SetLaws
 pub mod SoundLaws
 pub mod StepLaws

@@ -21,9 +21,8 @@ use Rattle.prebind.specs.Places.{is_linkedit_at}
 use Rattle.prebind.specs.Targets.{value_place, rebase_target}
 use Rattle.prebind.specs.Words.{is_free, rebased_word, rebased_words}
 use Rattle.prebind.specs.WordRules.{leads_into_linkedit, leads_nowhere, is_out_of, breaks_135, breaks_136, breaks_137, first_rebase, rebase_fault}
-use Rattle.prebind.specs.Indexed.{span_of}
-use Rattle.prebind.specs.Framed.{within}
-use Rattle.prebind.proofs.FrameLaws.{within_is}
+use Rattle.prebind.specs.Indexed.{span_of, bare_segment}
+use Rattle.prebind.proofs.FrameLaws.{inside_is}
 
 -- the same addresses, and `__LINKEDIT` in the same place
 pub record HaveSameOutline (a b : List Seg) : Type 0 where
@@ -31,7 +30,7 @@ pub record HaveSameOutline (a b : List Seg) : Type 0 where
   pub named : map is_linkedit_segment a ≡ map is_linkedit_segment b
 
 same_inside : (a b : List Seg) → HaveSameOutline a b → (x : ℕ) → inside a x ≡ inside b x
-same_inside a b same x = sym (within_is a x) ∙ (ap (λ (ss : List Span). within ss x) same.spans ∙ within_is b x)
+same_inside a b same x = sym (inside_is a x) ∙ (ap (λ (ss : List Span). inside (map bare_segment ss) x) same.spans ∙ inside_is b x)
 
 abbrev named_at : Option Bool → Bool
 named_at None = true

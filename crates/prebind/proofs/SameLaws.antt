@@ -178,7 +178,8 @@ none_behind true o is = absurd (let e : ◌≡◌ {A = Option ℕ} (Some 0) None
 none_behind false None is = (refl, refl)
 none_behind false (Some n) is = absurd (let e : ◌≡◌ {A = Option ℕ} (Some (n + 1)) None = is in cc)
 
-named_stays : (ss : List Seg) (es : List Export) (name : List ℕ) (t : Target) → position (λ (e : Export). strays ss e.target) es ≡ None → target_named es name ≡ Some t → strays ss t ≡ false
+-- an export that a name finds doesn't stray where none does
+pub named_stays : (ss : List Seg) (es : List Export) (name : List ℕ) (t : Target) → position (λ (e : Export). strays ss e.target) es ≡ None → target_named es name ≡ Some t → strays ss t ≡ false
 unfolding target_named
 named_stays ss [] name t none is = absurd (let e : ◌≡◌ {A = Option Target} None (Some t) = is in cc)
 named_stays ss (e ∷ es) name t none is =

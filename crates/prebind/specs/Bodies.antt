@@ -12,11 +12,11 @@ use Rattle.split_info.specs.declared.reference.Reference.{Reference}
 use Rattle.dep_closure.specs.Linked.{Linked}
 use Rattle.prebind.specs.Sets.{ImageSet}
 use Rattle.prebind.specs.Words.{streams_at}
-use Rattle.prebind.specs.Indexed.{IndexOf, AreOf}
+use Rattle.prebind.specs.Indexed.{bare_segment, IndexOf, AreOf}
 
 -- `__LINKEDIT` by its addresses
 abbrev pub linkedit_at : Span → Seg
-linkedit_at span = record { name = codes "__LINKEDIT" ++ (0 ∷ 0 ∷ 0 ∷ 0 ∷ 0 ∷ 0 ∷ []); vmaddr = span.at; vmsize = span.len; fileoff = 0; filesize = 0; maxprot = 0; initprot = 0; flags = 0; bytes = [] }
+linkedit_at span = record (bare_segment span) { name = codes "__LINKEDIT" ++ (0 ∷ 0 ∷ 0 ∷ 0 ∷ 0 ∷ 0 ∷ []) }
 
 abbrev pub whole_of : List Seg → Span → List Seg
 whole_of segments linkedit = segments ++ linkedit_at linkedit ∷ []

@@ -1,8 +1,7 @@
 -- The steps of a resolution by the addresses of headers and segments alone.
-use Rattle.std.specs.Prelude.{ℕ, ◌+◌, ◌-◌, Bool, ◌&&◌, List, [], ◌∷◌, Option, Some, None, nat_le, nat_lt, slice_get, if◌then◌else◌}
-use Rattle.dsc_base.specs.declared.fault.Span.{Span}
-use Rattle.macho_image.specs.declared.places.segment_index.Inside.{Inside}
+use Rattle.std.specs.Prelude.{ℕ, ◌+◌, List, [], map, Option, Some, None, slice_get}
 use Rattle.macho_image.specs.Places.{wrap}
+use Rattle.macho_image.specs.Segments.{inside}
 use Rattle.export_trie.specs.declared.export.Entry.{Entry}
 use Rattle.export_trie.specs.declared.export.Target.{Target}
 use Rattle.export_trie.specs.declared.export.Target.TheVariants.{Offset, Absolute, Reexport}
@@ -10,22 +9,11 @@ use Rattle.export_trie.specs.Finding.{target_in}
 use Rattle.prebind.specs.declared.resolved.Resolved.{Resolved}
 use Rattle.prebind.specs.declared.resolved.Resolved.TheVariants.{Constant, Absent}
 use Rattle.prebind.specs.Resolves.{Step, Ends, Reexports, place_of}
-use Rattle.prebind.specs.Indexed.{FrameOf}
-
--- the first segment that contains an address
-abbrev pub covers : Span → ℕ → Bool
-covers s x = nat_le s.at x && nat_lt x (s.at + s.len)
-
-abbrev pub within_from : ℕ → List Span → ℕ → Option Inside
-within_from g [] x = None
-within_from g (s ∷ ss) x = if covers s x then Some (record { segment = g; distance = x - s.at }) else within_from (g + 1) ss x
-
-unfoldable pub within : List Span → ℕ → Option Inside
-within spans x = within_from 0 spans x
+use Rattle.prebind.specs.Indexed.{FrameOf, bare_segment}
 
 -- where an export leads
 abbrev pub place_in : ℕ → FrameOf → ℕ → Resolved
-place_in k frame address = place_of k address (within frame.segments address)
+place_in k frame address = place_of k address (inside (map bare_segment frame.segments) address)
 
 abbrev pub framed_place : FrameOf → ℕ → ℕ → Resolved
 framed_place frame k offset = place_in k frame (wrap (frame.header + offset))

@@ -1,5 +1,5 @@
 -- What tells where the symbols of a set lead once its files are read: its links, the exports of its images by their names, and where the headers and segments of these stand.
-use Rattle.std.specs.Prelude.{◌≡◌, ◌<◌, ℕ, List, map, slice_index}
+use Rattle.std.specs.Prelude.{◌≡◌, ◌<◌, ℕ, List, [], map, slice_index}
 use Rattle.std.specs.List.{All}
 use Rattle.dsc_base.specs.declared.fault.Span.{Span}
 use Rattle.macho_image.specs.Records.{Seg, Img}
@@ -17,6 +17,10 @@ pub record FrameOf : Type 0 where
 
 abbrev pub span_of : Seg → Span
 span_of s = record { at = s.vmaddr; len = s.vmsize }
+
+-- and back: a segment of which the addresses alone are known
+abbrev pub bare_segment : Span → Seg
+bare_segment span = record { name = []; vmaddr = span.at; vmsize = span.len; fileoff = 0; filesize = 0; maxprot = 0; initprot = 0; flags = 0; bytes = [] }
 
 abbrev pub frame_of : Img → FrameOf
 frame_of image = record { header = header_address image.segments; segments = map span_of image.segments }

@@ -30,3 +30,4 @@ pub use reading::{read_all_streams, read_streams};
 pub use resolution::resolve;
 pub use resolved::{PlacedWord, Resolved, WordTarget};
 pub use set::{ImageStreams, Set};
+pub use words::place_resolved;

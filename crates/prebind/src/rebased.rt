@@ -14,6 +14,28 @@ use dsc_base::{Fault, NoMemory, Rule, Site};
 use indexmap::{IndexMap, IndexSet};
 use macho_image::Location;
 
+// How a rebase may stray: into `__LINKEDIT`, or into no segment, where none is recorded for it; or out of the
+// segment that is recorded.
+#[derive(Clone, Copy)]
+enum Stray {
+    IntoLinkedit,
+    Nowhere,
+    OutOfRange,
+}
+
+impl Stray {
+    // The rule that it breaks.
+    fn rule(self) -> Rule
+        ensures { result ≡ steps.rule_of self }
+    {
+        match self {
+            Stray::IntoLinkedit => Rule::PointsIntoLinkedit,
+            Stray::Nowhere => Rule::RebaseOutside,
+            Stray::OutOfRange => Rule::PointerOutOfRange,
+        }
+    }
+}
+
 fn points_into_linkedit(segments: &Body<'_, '_>, value: u64, recorded: Option<u32>) -> bool
     ensures { result ≡ rules.breaks_135 segments.now value recorded }
 {
@@ -108,55 +130,54 @@ fn recorded_at(pointers: &IndexMap<u64, u32>, word: &Location) -> Option<u32>
     pointers.get(&word.address).copied()
 }
 
-fn first_into_linkedit(
+// Whether a rebase with this value strays in one way.
+fn strays(segments: &Body<'_, '_>, value: u64, recorded: Option<u32>, stray: Stray) -> bool
+    ensures { result ≡ steps.strays stray segments.now value recorded }
+{
+    match stray {
+        Stray::IntoLinkedit => points_into_linkedit(segments, value, recorded),
+        Stray::Nowhere => points_nowhere(segments, value, recorded),
+        Stray::OutOfRange => points_out_of_range(segments, value, recorded),
+    }
+}
+
+fn first_straying(
     segments: &Body<'_, '_>,
     bound: &IndexSet<u64>,
     pointers: &IndexMap<u64, u32>,
     words: &[Location],
+    stray: Stray,
 ) -> Option<usize>
-    ensures { result ≡ rules.first_rebase rules.breaks_135 segments.now (contains nat_eq bound.now) (get nat_eq pointers.now) words.now }
+    ensures { result ≡ rules.first_rebase (steps.strays stray) segments.now (contains nat_eq bound.now) (get nat_eq pointers.now) words.now }
 {
     words.iter().position(|l| {
         is_free(bound, l)
-            && points_into_linkedit(segments, segments.value_at(l), recorded_at(pointers, l))
+            && strays(
+                segments,
+                segments.value_at(l),
+                recorded_at(pointers, l),
+                stray,
+            )
     })
 }
 
-fn first_nowhere(
+// Refuses the first rebase that strays in one way.
+fn check_stray(
     segments: &Body<'_, '_>,
     bound: &IndexSet<u64>,
     pointers: &IndexMap<u64, u32>,
     words: &[Location],
-) -> Option<usize>
-    ensures { result ≡ rules.first_rebase rules.breaks_136 segments.now (contains nat_eq bound.now) (get nat_eq pointers.now) words.now }
+    stray: Stray,
+) -> Result<(), Fault>
+    ensures { Refuses (broken (steps.rule_of stray) (rules.first_rebase (steps.strays stray) segments.now (contains nat_eq bound.now) (get nat_eq pointers.now) words.now)) result }
 {
-    words.iter().position(|l| {
-        is_free(bound, l)
-            && points_nowhere(segments, segments.value_at(l), recorded_at(pointers, l))
-    })
-}
-
-fn first_out_of_range(
-    segments: &Body<'_, '_>,
-    bound: &IndexSet<u64>,
-    pointers: &IndexMap<u64, u32>,
-    words: &[Location],
-) -> Option<usize>
-    ensures { result ≡ rules.first_rebase rules.breaks_137 segments.now (contains nat_eq bound.now) (get nat_eq pointers.now) words.now }
-{
-    words.iter().position(|l| {
-        is_free(bound, l)
-            && points_out_of_range(segments, segments.value_at(l), recorded_at(pointers, l))
-    })
-}
-
-fn refused(rule: Rule, index: usize) -> Fault
-    ensures { result ≡ Fault.Broken (record { rule = rule; at = index }) }
-{
-    Fault::Broken(Site {
-        rule,
-        at: index as u64,
-    })
+    match first_straying(segments, bound, pointers, words, stray) {
+        Some(at) => Err(Fault::Broken(Site {
+            rule: stray.rule(),
+            at: at as u64,
+        })),
+        None => Ok(()),
+    }
 }
 
 // Refuses the first of the rules that rebases break: all that lead into `__LINKEDIT` go before those that
@@ -169,16 +190,10 @@ fn check_rebases(
 ) -> Result<(), Fault>
     ensures { Refuses (rules.rebase_fault segments.now (contains nat_eq bound.now) (get nat_eq pointers.now) words.now) result }
 {
-    if let Some(at) = first_into_linkedit(segments, bound, pointers, words) {
-        return Err(refused(Rule::PointsIntoLinkedit, at));
-    }
-    if let Some(at) = first_nowhere(segments, bound, pointers, words) {
-        return Err(refused(Rule::RebaseOutside, at));
-    }
-    match first_out_of_range(segments, bound, pointers, words) {
-        Some(at) => Err(refused(Rule::PointerOutOfRange, at)),
-        None => Ok(()),
-    }
+    check_stray(segments, bound, pointers, words, Stray::IntoLinkedit)?;
+    check_stray(segments, bound, pointers, words, Stray::Nowhere)?;
+    check_stray(segments, bound, pointers, words, Stray::OutOfRange)?;
+    Ok(())
 }
 
 // Appends the rebases that aren't bound, each with where it leads, and tells whether all keep the rules. It

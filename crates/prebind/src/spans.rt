@@ -1,13 +1,14 @@
 // The segments of an image by their addresses alone.
-ghost use Rattle.std.specs.Prelude.{◌≡◌, length, ◌<◌, ◌^◌};
-ghost use Rattle.prebind.specs.Framed as framed;
+ghost use Rattle.std.specs.Prelude.{◌≡◌, length, map, ◌<◌, ◌^◌};
+ghost use Rattle.macho_image.specs.Segments as places;
+ghost use Rattle.prebind.specs.Indexed.{bare_segment};
 
 use dsc_base::Span;
 use macho_image::Inside;
 
 /// Whether a span has an address.
 pub(crate) fn covers(span: &Span, address: u64) -> bool
-    ensures { result ≡ framed.covers span.now address }
+    ensures { result ≡ places.contains (bare_segment span.now) address }
 {
     span.at <= address && address - span.at < span.len
 }
@@ -16,7 +17,7 @@ pub(crate) fn covers(span: &Span, address: u64) -> bool
 /// segments once.
 pub(crate) fn inside(spans: &[Span], address: u64) -> Option<Inside>
     requires { length spans.now < 2 ^ 32 }
-    ensures { result ≡ framed.within spans.now address }
+    ensures { result ≡ places.inside (map bare_segment spans.now) address }
 {
     for (number, span) in spans.iter().enumerate() {
         if covers(span, address) {

@@ -60,12 +60,12 @@ fn bound_target(addend: i64, outcome: Resolved) -> WordTarget
     }
 }
 
-// The word that a bind gives whose symbol has this outcome.
-pub(crate) fn place_resolved(
-    index: usize,
-    bind: &Bind<'_>,
-    outcome: Resolved,
-) -> Result<PlacedWord, Fault>
+/// The word that the bind of an index gives whose symbol has this outcome: it leads as far behind the symbol's
+/// place as the bind's addend says, also where a weak symbol is absent, which counts as 0.
+///
+/// Refuses with that index `BadOrdinal`, `ReexportLoop`, and `UnresolvedSymbol` where the symbol isn't weak.
+/// It takes no memory.
+pub fn place_resolved(index: usize, bind: &Bind<'_>, outcome: Resolved) -> Result<PlacedWord, Fault>
     ensures found { IfOk result (λ w. w ≡ record { at = bind.now.at; target = targets.bound_target bind.now.addend outcome }) }
     ensures cause { Refuses (option_map (λ rule. record { rule = rule; at = index }) (rules.outcome_fault bind.now.weak outcome)) result }
 {

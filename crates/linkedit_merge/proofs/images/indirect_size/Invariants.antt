@@ -1,7 +1,8 @@
 -- The entries so far.
 use Rattle.std.proofs.Common.{take}
+use Rattle.dsc_base.specs.Limits.{span_limit}
 use Rattle.linkedit_merge.specs.Sizes.{indirect_size, IsSize}
 use Rattle.linkedit_merge.proofs.images.indirect_size.Given as goal
 
 abbrev pub invariant-loop-table : goal.invariant-loop-table
-invariant-loop-table l = IsSize (indirect_size (take l.table-index l.tables)) l.size
+invariant-loop-table l = IsSize span_limit (indirect_size (take l.table-index l.tables)) l.size

@@ -1,6 +1,7 @@
 -- The streams of one image more.
 use Rattle.std.proofs.Common.{◌≡◌, ◌∙◌, ◌+◌, ℕ, List, Vec, Global, map, drop, refl, sym, ap, arith}
 use Rattle.std.specs.List.{flat_map}
+use Rattle.dsc_base.specs.Limits.{span_limit}
 use Rattle.macho_image.specs.Records.{Img}
 use Rattle.export_trie.specs.declared.export.Export.{Export}
 use Rattle.cache_layout.specs.Places.{numbered}
@@ -44,7 +45,7 @@ returns-in_err-end-clause-cause c =
     let next = end_behind c.loop-number.end (lens_of (own_streams streams own)) in
     let rest = lens_of (flat_map (λ (parts : List (List ℕ)). parts) (drop (n + 1) (numbered (own_at exports) images))) in
     let whole : end_behind 0 (lens_of (all_streams exports images)) ≡ end_behind next rest = sym c.loop-number.invariant.end ∙ end_next exports images n streams own c.loop-number.end h in
-    exceeds_exit next (end_behind 0 (lens_of (all_streams exports images))) c.from_residual.result c.in_err-end.field-0.0 (omega (arith, whole, end-rises next rest)) c.from_residual.ensures.1 c.in_err-end.ensures.cause
+    exceeds_exit span_limit next (end_behind 0 (lens_of (all_streams exports images))) c.from_residual.result c.in_err-end.field-0.0 (omega (arith, whole, end-rises next rest)) c.from_residual.ensures.1 c.in_err-end.ensures.cause
 
 pub returns-clause-size : goal.returns-clause-size
 returns-clause-size c =

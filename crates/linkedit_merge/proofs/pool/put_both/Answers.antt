@@ -12,7 +12,7 @@ pub returns-in_err-put_name-clause-cause : goal.returns-in_err-put_name-clause-c
 unfolding pooled_behind
 returns-in_err-put_name-clause-cause c =
     let first = put_name (names_of c.args.pool.now) c.args.name.now in
-    exceeds_exit (pool_len first) (pool_len (pooled_behind first (alias_names (option_copied c.args.alias)))) c.from_residual.result c.in_err-put_name.field-0.0
+    exceeds_exit c.args.limit (pool_len first) (pool_len (pooled_behind first (alias_names (option_copied c.args.alias)))) c.from_residual.result c.in_err-put_name.field-0.0
     (pooled-rises first (alias_names (option_copied c.args.alias))) c.from_residual.ensures.1 c.in_err-put_name.ensures.cause
 
 -- the name itself and then the other one
@@ -26,7 +26,7 @@ returns-in_err-put_name-2-clause-cause c =
     let first = put_name (names_of c.args.pool.now) c.args.name.now in
     let whole : pooled_behind first (alias_names (option_copied c.args.alias)) ≡ put_name old c.in-Some.alias.now =
     with_alias first c.args.alias (Some c.in-Some.alias) c.in-Some.is ∙ ap (λ (l : List (List ℕ)). put_name l c.in-Some.alias.now) (sym c.in_ok-put_name.ensures.names) in
-    exceeds_exit (pool_len (put_name old c.in-Some.alias.now)) (pool_len (pooled_behind first (alias_names (option_copied c.args.alias)))) c.from_residual-in_err-put_name-2.result c.in_err-put_name-2.field-0.0
+    exceeds_exit c.args.limit (pool_len (put_name old c.in-Some.alias.now)) (pool_len (pooled_behind first (alias_names (option_copied c.args.alias)))) c.from_residual-in_err-put_name-2.result c.in_err-put_name-2.field-0.0
     (omega (arith, ap pool_len whole)) c.from_residual-in_err-put_name-2.ensures.1 c.in_err-put_name-2.ensures.cause
 
 pub returns-in_ok-put_name-2-clause-names : goal.returns-in_ok-put_name-2-clause-names

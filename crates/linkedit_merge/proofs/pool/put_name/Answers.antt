@@ -6,11 +6,11 @@ use Rattle.linkedit_merge.proofs.pool.put_name.Goals as goal
 pub returns-then-is_pooled-clause-names : goal.returns-then-is_pooled-clause-names
 returns-then-is_pooled-clause-names c = sym (put_there (names_of c.args.pool.now) c.args.name.now (sym c.is_pooled.ensures ∙ c.if-is_pooled.true))
 
-pub returns-then-end-gt-SPAN_LIMIT-clause-cause : goal.returns-then-end-gt-SPAN_LIMIT-clause-cause
-returns-then-end-gt-SPAN_LIMIT-clause-cause c =
+pub returns-then-end-limit-clause-cause : goal.returns-then-end-limit-clause-cause
+returns-then-end-limit-clause-cause c =
     let pool = names_of c.args.pool.now in
     let last = put_last pool c.args.name.now (sym c.is_pooled.ensures ∙ c.if-is_pooled.false) in
-    (c.too_large.ensures, omega (arith, ap pool_len last, pool_len-push pool c.args.name.now, c.requires.long))
+    omega (arith, ap pool_len last, pool_len-push pool c.args.name.now, c.requires.pool.long)
 
 pub put_new-requires-clause-new : goal.put_new-requires-clause-new
 put_new-requires-clause-new c = not_pooled (names_of c.args.pool.now) c.args.name.now (sym c.is_pooled.ensures ∙ c.if-is_pooled.false)
@@ -20,7 +20,7 @@ returns-clause-pool c =
     let pool = names_of c.args.pool.now in
     record {
       indexed = c.in_ok-put_new.ensures.indexed;
-      long = omega (arith, ap pool_len c.in_ok-put_new.ensures.names, pool_len-push pool c.args.name.now, c.requires.long);
+      long = omega (arith, ap pool_len c.in_ok-put_new.ensures.names, pool_len-push pool c.args.name.now, c.requires.pool.long);
       low = omega arith;
     }
 

@@ -24,7 +24,7 @@ returns-in_err-put_symbol-clause-cause c =
     let next = pooled_behind old (symbol_names c.symbol-item.result) in
     let rest = flat_map symbol_names (drop (c.loop-symbol.symbol-index + 1) c.args.symbols.now) in
     let whole = sym c.loop-symbol.invariant.names ∙ names_more symbol_names old c.args.symbols.now c.loop-symbol.symbol-index c.symbol-item.result c.loop-symbol-test.true c.symbol-item.is in
-    exceeds_exit (pool_len next) (pool_len (pooled_behind (names_of c.args.pool.now) (flat_map symbol_names c.args.symbols.now))) c.from_residual.result c.in_err-put_symbol.field-0.0
+    exceeds_exit c.args.limit (pool_len next) (pool_len (pooled_behind (names_of c.args.pool.now) (flat_map symbol_names c.args.symbols.now))) c.from_residual.result c.in_err-put_symbol.field-0.0
     (omega (arith, ap pool_len whole, pooled-rises next rest)) c.from_residual.ensures.1 c.in_err-put_symbol.ensures.cause
 
 pub returns-clause-names : goal.returns-clause-names

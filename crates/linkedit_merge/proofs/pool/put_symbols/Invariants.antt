@@ -7,6 +7,6 @@ use Rattle.linkedit_merge.proofs.pool.put_symbols.Given as goal
 
 abbrev pub invariant-loop-symbol : goal.invariant-loop-symbol
 invariant-loop-symbol l = record {
-  pool : IsPool l.pool;
+  pool : IsPool l.limit l.pool;
   names : pooled_behind (names_of l.pool) (flat_map symbol_names (drop l.symbol-index l.symbols)) ≡ pooled_behind (names_of l.initial.pool) (flat_map symbol_names l.symbols);
 }

@@ -16,7 +16,7 @@ pub returns-in_err-end-clause-cause : goal.returns-in_err-end-clause-cause
 returns-in_err-end-clause-cause c =
     let next = end_with c.loop-len.end (get_or c.args.lens.now c.loop-len.len-index 0) in
     let whole = sym c.loop-len.invariant.0 ∙ end_more c.loop-len.end c.args.lens.now c.loop-len.len-index c.loop-len-test.true in
-    exceeds_exit next (end_behind c.args.before c.args.lens.now) c.from_residual.result c.in_err-end.field-0.0
+    exceeds_exit c.args.limit next (end_behind c.args.before c.args.lens.now) c.from_residual.result c.in_err-end.field-0.0
     (omega (arith, whole, end-rises next (drop (c.loop-len.len-index + 1) c.args.lens.now)))
     c.from_residual.ensures.1 c.in_err-end.ensures.cause
 

@@ -1,7 +1,7 @@
 use Rattle.std.proofs.Common.{refl}
-use Rattle.prebind.specs.Framed.{within}
+use Rattle.macho_image.specs.Segments.{inside}
 use Rattle.prebind.proofs.spans.inside.Goals as goal
 
 pub loop-number-init : goal.loop-number-init
-unfolding within
+unfolding inside
 loop-number-init c = refl

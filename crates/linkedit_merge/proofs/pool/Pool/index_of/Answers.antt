@@ -9,4 +9,4 @@ pub returns : goal.returns
 unfolding index_in
 returns c =
     c.unwrap_or.ensures
-    ∙ ap (λ (o : Option ℕ). unwrap_or o 0) (c.copied.ensures ∙ (c.get.ensures.value ∙ found_in c.args.self.now.indices.entries c.args.name.now c.requires.indexed))
+    ∙ ap (λ (o : Option ℕ). unwrap_or o 0) (c.copied.ensures ∙ (c.get.ensures.value ∙ found_in c.args.self.now.indices.entries c.args.name.now c.requires))

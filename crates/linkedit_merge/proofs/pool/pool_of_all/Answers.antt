@@ -5,7 +5,7 @@ use Rattle.linkedit_merge.specs.Pool.{pooled_behind, symbol_names}
 use Rattle.linkedit_merge.specs.Indices.{names_of, pool_len}
 use Rattle.linkedit_merge.proofs.SizeLaws.{exceeds_exit}
 use Rattle.linkedit_merge.proofs.PoolLaws.{pooled-rises, names_more, names_all, names_within}
-use Rattle.linkedit_merge.proofs.pool.pool_of.Goals as goal
+use Rattle.linkedit_merge.proofs.pool.pool_of_all.Goals as goal
 
 abbrev names : Tabs → List (List ℕ)
 names t = flat_map symbol_names t.symbols
@@ -34,7 +34,7 @@ returns-in_err-put_symbols-clause-cause c =
     ∙ (sym c.loop-table.invariant.names
     ∙ (names_more names old c.args.tables.now c.loop-table.table-index c.table-item.result c.loop-table-test.true c.table-item.is
     ∙ ap (λ (ss : List Sym). pooled_behind (pooled_behind old (flat_map symbol_names ss)) rest) (sym own))) in
-    exceeds_exit (pool_len next) (pool_len (pooled_behind [] (flat_map symbol_names (flat_map (λ (t : Tabs). t.symbols) c.args.tables.now)))) c.from_residual.result c.in_err-put_symbols.field-0.0
+    exceeds_exit c.args.limit (pool_len next) (pool_len (pooled_behind [] (flat_map symbol_names (flat_map (λ (t : Tabs). t.symbols) c.args.tables.now)))) c.from_residual.result c.in_err-put_symbols.field-0.0
     (omega (arith, ap pool_len whole, pooled-rises next rest)) c.from_residual.ensures.1 c.in_err-put_symbols.ensures.cause
 
 pub returns-clause-names : goal.returns-clause-names
