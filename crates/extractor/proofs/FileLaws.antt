@@ -15,7 +15,7 @@ use Rattle.linkedit_merge.specs.Parts.{joined_behind, lens_of, spans_behind}
 use Rattle.extractor.specs.declared.linkedit.OwnParts.{OwnParts}
 use Rattle.extractor.specs.ExtractOf.{linkedit_parts, linkedit_of, linkedit_limit, bodies_of, page_bytes, body_bytes, moves_from, spots_of, header_of, file_of, rebase_stream}
 use Rattle.extractor.specs.Files.{AreOwnParts, AreFew}
-use Rattle.extractor.specs.Pools.{names_of}
+use Rattle.linkedit_merge.specs.Indices.{names_of}
 use Rattle.extractor.specs.Prepared.{own_parts, names_in}
 use Rattle.extractor.proofs.BodyLaws.{length-pages}
 use Rattle.extractor.proofs.JoinedLaws.{joined_base, spans_base}

@@ -1,7 +1,6 @@
 pub mod AgreeLaws
 pub mod AlikeLaws
 pub mod BodyLaws
-pub mod BoundLaws
 pub mod BoundsLaws
 pub mod ChainLaws
 pub mod ExtractedLaws
@@ -25,7 +24,6 @@ pub mod ReadLaws
 pub mod ReadyLaws
 pub mod RoomLaws
 pub mod SetLaws
-pub mod SizeLaws
 pub mod SpotLaws
 pub mod SumsLaws
 pub mod VetLaws

@@ -18,7 +18,7 @@ use Rattle.extractor.specs.declared.parts.StreamSpans.{StreamSpans}
 use Rattle.extractor.specs.declared.parts.TableSpans.{TableSpans}
 use Rattle.extractor.specs.declared.parts.PartSpans.{PartSpans}
 use Rattle.extractor.specs.ExtractOf.{rebase_stream, linkedit_of, linkedit_limit, linkedit_address, bodies_of}
-use Rattle.extractor.specs.Pools.{names_of, IsPool}
+use Rattle.linkedit_merge.specs.Indices.{names_of, IsPool}
 use Rattle.extractor.specs.Prepared.{names_in}
 use Rattle.extractor.specs.Reading.{IsRead}
 
@@ -51,7 +51,7 @@ last_file moves = (slice_index_or moves (length moves - 1) (record { address = 0
 pub record AreOwnParts (i : Img) (words : List Location) (p : OwnParts) : Type 0 where
   pub rebase : p.rebase.items ≡ rebase_stream i words
   pub tables : p.tables ≡ tables_of i
-  pub pool : IsPool p.pool
+  pub pool : IsPool linkedit_limit p.pool
   pub names : names_of p.pool ≡ names_in (tables_of i)
   pub size : p.size ≡ length (linkedit_of i words)
 

@@ -7,9 +7,7 @@ pub mod Files
 pub mod Free
 pub mod Homes
 pub mod Placing
-pub mod Pools
 pub mod Prepared
 pub mod Reading
-pub mod Sizes
 pub mod Vets
 pub mod Vetting

@@ -1,16 +1,15 @@
 // The file that is made of one image of a cache.
 ghost use Rattle.std.specs.Prelude.{◌≡◌, ◌≤◌, ◌<◌, ◌++◌, length, drop, IfOk, OnOk};
 ghost use Rattle.dsc_base.specs.Limits.{span_limit};
+ghost use Rattle.linkedit_merge.specs.Indices.{names_of, IsPool};
 ghost use Rattle.linkedit_merge.specs.Parts.{joined_behind, spans_behind, lens_of};
 ghost use Rattle.extractor.specs.ExtractOf as spec;
 ghost use Rattle.extractor.specs.Files.{CanExtract, AreFew, own_spots, part_spans};
-ghost use Rattle.extractor.specs.Pools.{names_of, IsPool};
 ghost use Rattle.extractor.specs.Prepared.{own_parts as all_parts};
 
-use crate::linkedit::{OwnParts, own_parts};
+use crate::linkedit::{LINKEDIT_LIMIT, OwnParts, own_parts};
 use crate::pages::{append_bodies, last_place, moves_of};
 use crate::parts::{PartSpans, put_streams, put_tables};
-use crate::sizes::LINKEDIT_LIMIT;
 use crate::vetted::Vetted;
 use dsc_base::{NoMemory, page_up};
 use macho_edit::{LinkSpots, standalone_header};
@@ -55,7 +54,7 @@ fn put_linkedit(
     image: &Image<'_>,
     parts: &OwnParts<'_>,
 ) -> Result<PartSpans, NoMemory>
-    requires pool { IsPool parts.now.pool }
+    requires pool { IsPool spec.linkedit_limit parts.now.pool }
     requires few { AreFew parts.now.tables }
     ensures bytes { OnOk result (out.new.items ≡ joined_behind out.old.items (all_parts image.now parts.now.rebase.items parts.now.tables (names_of parts.now.pool))) }
     ensures spans { IfOk result (λ s. part_spans s ≡ spans_behind 0 (length out.old.items) (lens_of (all_parts image.now parts.now.rebase.items parts.now.tables (names_of parts.now.pool)))) }

@@ -9,9 +9,9 @@ ghost use Rattle.extractor.specs.Vetting as spec;
 
 use crate::linkedit::own_parts;
 use crate::pointers::found;
-use crate::sizes::SizeFault;
 use cache_header::TableImage;
 use dsc_base::{FindingKind, REGION_START, ViewFault};
+use linkedit_merge::SizeFault;
 use macho_image::{Image, Location};
 use slide_chain::ChainWord;
 use std::alloc::Global;

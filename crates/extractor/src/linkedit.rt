@@ -1,24 +1,25 @@
 // What goes into the linkedit of a file of its own.
-ghost use Rattle.std.specs.Prelude.{◌≡◌, ◌≤◌, length, IfOk, IfErr, OnOk};
+ghost use Rattle.std.specs.Prelude.{◌≡◌, ◌≤◌, ◌*◌, length, IfOk, IfErr, OnOk};
 ghost use Rattle.nlist_table.specs.Symbols.{tables_of};
 ghost use Rattle.nlist_table.specs.Kept.{AreTables};
 ghost use Rattle.rebase_ops.specs.Writing.{CanBeWritten};
-ghost use Rattle.linkedit_merge.specs.Indices.{pool_len};
+ghost use Rattle.linkedit_merge.specs.Indices.{pool_len, names_of, IsPool};
+ghost use Rattle.linkedit_merge.specs.Sizes.{IsSize, Exceeds};
 ghost use Rattle.extractor.specs.ExtractOf.{rebase_stream, linkedit_of, linkedit_limit};
 ghost use Rattle.extractor.specs.Files.{AreOwnParts};
-ghost use Rattle.extractor.specs.Pools.{names_of, IsPool};
 ghost use Rattle.extractor.specs.Prepared as spec;
 ghost use Rattle.extractor.specs.Reading.{IsRead};
-ghost use Rattle.extractor.specs.Sizes.{IsSize, Exceeds};
 
 use crate::entries::{INDEX, SYMBOL};
-use crate::pool::{Pool, pool_of};
-use crate::sizes::{SizeFault, end_behind, entries_size};
 use dsc_base::NoMemory;
+use linkedit_merge::{Pool, SizeFault, end_behind, pool_of, with_entries};
 use macho_image::{Image, Location};
 use nlist_table::{Tables, read_tables};
 use rebase_ops::write_rebases;
 use std::alloc::Global;
+
+/// The most bytes that the linkedit of a file may have.
+pub(crate) const LINKEDIT_LIMIT: u64 = 0x4000_0000;
 
 /// The rebase stream of some words; no bytes for none.
 fn rebase_bytes(alloc: Global, image: &Image<'_>, words: &[Location]) -> Result<Vec<u8>, NoMemory>
@@ -44,6 +45,15 @@ fn tables_in<'a>(alloc: Global, image: &Image<'a>) -> Result<Tables<'a>, NoMemor
     }
 }
 
+/// The bytes of so many entries of a width.
+fn entries_size(count: usize, width: u64) -> Result<u64, SizeFault>
+    requires { (1 ≤ width) × (width ≤ 16) }
+    ensures size { IfOk result (IsSize linkedit_limit (width * count)) }
+    ensures cause { IfErr result (Exceeds linkedit_limit (width * count)) }
+{
+    with_entries(0, count, width, LINKEDIT_LIMIT)
+}
+
 /// How many bytes a linkedit with so many symbols and indices has.
 fn measure(
     image: &Image<'_>,
@@ -52,8 +62,8 @@ fn measure(
     indirect: usize,
     pool: u64,
 ) -> Result<u64, SizeFault>
-    ensures size { IfOk result (IsSize (spec.own_size image.now rebase symbols indirect pool)) }
-    ensures cause { IfErr result (Exceeds (spec.own_size image.now rebase symbols indirect pool)) }
+    ensures size { IfOk result (IsSize linkedit_limit (spec.own_size image.now rebase symbols indirect pool)) }
+    ensures cause { IfErr result (Exceeds linkedit_limit (spec.own_size image.now rebase symbols indirect pool)) }
 {
     let symbols = entries_size(symbols, SYMBOL)?;
     let indirect = entries_size(indirect, INDEX)?;
@@ -69,16 +79,16 @@ fn measure(
         indirect,
         pool,
     ];
-    end_behind(0, &lens)
+    end_behind(0, &lens, LINKEDIT_LIMIT)
 }
 
 /// The pool of the names in tables.
 fn pool_in<'a>(alloc: Global, tables: &Tables<'a>) -> Result<Pool<'a>, SizeFault>
-    ensures pool { IfOk result IsPool }
+    ensures pool { IfOk result (IsPool linkedit_limit) }
     ensures names { IfOk result (λ p. names_of p ≡ spec.names_in tables.now) }
-    ensures cause { IfErr result (Exceeds (pool_len (spec.names_in tables.now))) }
+    ensures cause { IfErr result (Exceeds linkedit_limit (pool_len (spec.names_in tables.now))) }
 {
-    pool_of(alloc, &tables.symbols)
+    pool_of(alloc, &tables.symbols, LINKEDIT_LIMIT)
 }
 
 /// How many bytes a linkedit has with these tables and the pool of their names.
@@ -88,10 +98,10 @@ fn measure_tables(
     tables: &Tables<'_>,
     pool: &Pool<'_>,
 ) -> Result<u64, SizeFault>
-    requires pool { IsPool pool.now }
+    requires pool { IsPool linkedit_limit pool.now }
     requires names { names_of pool.now ≡ spec.names_in tables.now }
-    ensures size { IfOk result (IsSize (spec.table_size image.now rebase tables.now)) }
-    ensures cause { IfErr result (Exceeds (spec.table_size image.now rebase tables.now)) }
+    ensures size { IfOk result (IsSize linkedit_limit (spec.table_size image.now rebase tables.now)) }
+    ensures cause { IfErr result (Exceeds linkedit_limit (spec.table_size image.now rebase tables.now)) }
 {
     measure(
         image,
@@ -123,7 +133,7 @@ pub(crate) fn own_parts<'a>(
     requires words { CanBeWritten image.now words.now }
     ensures parts { IfOk result (AreOwnParts image.now words.now) }
     ensures small { OnOk result (length (linkedit_of image.now words.now) ≤ linkedit_limit) }
-    ensures cause { IfErr result (Exceeds (length (linkedit_of image.now words.now))) }
+    ensures cause { IfErr result (Exceeds linkedit_limit (length (linkedit_of image.now words.now))) }
 {
     let rebase = rebase_bytes(alloc, image, words)?;
     let tables = tables_in(alloc, image)?;

@@ -1,5 +1,5 @@
 // How the images of a cache are linked, and the rules that they break as a set.
-ghost use Rattle.std.specs.Prelude.{◌≡◌, ◌≤◌, ◌+◌, ◌-◌, ◌++◌, ◌^◌, [], None, min, map, length, IfOk, OnOk};
+ghost use Rattle.std.specs.Prelude.{◌≡◌, ◌≤◌, ◌+◌, ◌++◌, [], None, map, length, IfOk};
 ghost use Rattle.dsc_base.specs.Limits.{set_record_limit, export_names_limit};
 ghost use Rattle.dsc_base.specs.Refusals.{Refuses, RefusesSet};
 ghost use Rattle.bind_ops.specs.Binds.{binds_of, bind_break};
@@ -12,8 +12,9 @@ ghost use Rattle.extractor.specs.Vetting as spec;
 ghost use Rattle.extractor.specs.Reading.{AreRead, IsRead};
 
 use bind_ops::{Bind, StreamKind, read_binds};
-use dsc_base::{EXPORT_NAMES_LIMIT, Fault, NoMemory, Rule, SET_RECORD_LIMIT, SetFault, Site};
+use dsc_base::{Fault, NoMemory, SetFault};
 use export_trie::{Export, read_trie};
+use load_model::{Totals, total_with};
 use macho_image::Image;
 use prebind::ImageStreams;
 use std::alloc::Global;
@@ -61,70 +62,30 @@ fn read_lists<'a>(alloc: Global, image: &Image<'a>) -> Result<ImageStreams<'a>, 
     })
 }
 
-/// How many bytes the names of exports have behind others; no more than a number has room for.
-fn names_with(before: u64, exports: &[Export]) -> u64
-    ensures { result ≡ min (before + sums.bytes_in exports.now) (2 ^ 64 - 1) }
-{
-    let mut total = before;
-    for export in exports {
-        total = total.saturating_add(export.name.as_slice().len() as u64);
-    }
-    total
-}
-
-/// Refuses more records, or more bytes of names, than the images up to one may have together.
-#[tactic(auto, unfolding(load_model::specs::Sums::sums_break))]
-fn check_sums(records: u64, names: u64) -> Result<(), Fault>
-    ensures { Refuses (sums.sums_break records names) result }
-{
-    if records > SET_RECORD_LIMIT || names > EXPORT_NAMES_LIMIT {
-        return Err(Fault::Broken(Site {
-            rule: Rule::SetTooLarge,
-            at: 0,
-        }));
-    }
-    Ok(())
-}
-
-/// What is read of an image of a cache; and how many records the images up to it have, and how many bytes the
-/// names that these export.
+/// What is read of an image of a cache, and the totals of the images up to it.
 #[derive(Drop)]
 struct Counted<'a> {
     streams: ImageStreams<'a>,
-    records: u64,
-    names: u64,
+    totals: Totals,
 }
 
-/// What an image has, behind images with so many records and names of so many bytes.
-fn read_counted<'a>(
-    alloc: Global,
-    image: &Image<'a>,
-    records: u64,
-    names: u64,
-) -> Result<Counted<'a>, Fault>
-    requires read { IsRead image.now }
-    requires records { records ≤ set_record_limit }
-    requires names { names ≤ export_names_limit }
+/// What an image has, behind images with these totals.
+fn read_counted<'a>(alloc: Global, image: &Image<'a>, before: Totals) -> Result<Counted<'a>, Fault>
+    requires { IsRead image.now }
     ensures streams { IfOk result (λ l. l.streams ≡ spec.cached_lists image.now) }
-    ensures records { IfOk result (λ l. l.records ≡ records + sums.count_in (spec.cached_lists image.now)) }
-    ensures names { IfOk result (λ l. l.names ≡ names + sums.name_bytes image.now) }
-    ensures few { IfOk result (λ l. l.records ≤ set_record_limit) }
-    ensures short { IfOk result (λ l. l.names ≤ export_names_limit) }
-    ensures cause { Refuses (sums.sums_break (records + sums.count_in (spec.cached_lists image.now)) (names + sums.name_bytes image.now)) result }
+    ensures records { IfOk result (λ l. l.totals.records ≡ before.records + sums.count_in (spec.cached_lists image.now)) }
+    ensures names { IfOk result (λ l. l.totals.names ≡ before.names + sums.name_bytes image.now) }
+    ensures few { IfOk result (λ l. l.totals.records ≤ set_record_limit) }
+    ensures short { IfOk result (λ l. l.totals.names ≤ export_names_limit) }
+    ensures cause { Refuses (sums.sums_break (before.records + sums.count_in (spec.cached_lists image.now)) (before.names + sums.name_bytes image.now)) result }
 {
     let streams = read_lists(alloc, image)?;
     let exports = exports_in(alloc, image)?;
-    let records = records.saturating_add(streams.binds.len() as u64);
-    let names = names_with(names, &exports);
-    match check_sums(records, names) {
-        Ok(()) => {}
+    let totals = match total_with(before, &streams, &exports) {
+        Ok(totals) => totals,
         Err(fault) => return Err(fault),
-    }
-    Ok(Counted {
-        streams,
-        records,
-        names,
-    })
+    };
+    Ok(Counted { streams, totals })
 }
 
 /// What the streams of each image spell, or the first image with which there are too many records, or too
@@ -139,13 +100,14 @@ pub(crate) fn read_all<'a>(
     ensures cause { RefusesSet (spec.sums_from 0 0 0 images.now) result }
 {
     let mut streams = Vec::with_capacity(alloc, images.len())?;
-    let mut records = 0;
-    let mut names = 0;
+    let mut totals = Totals {
+        records: 0,
+        names: 0,
+    };
     for (number, image) in images.iter().enumerate() {
-        match read_counted(alloc, image, records, names) {
+        match read_counted(alloc, image, totals) {
             Ok(counted) => {
-                records = counted.records;
-                names = counted.names;
+                totals = counted.totals;
                 streams.push(counted.streams)?;
             }
             Err(fault) => return Err(fault.in_image(number as u32)),

@@ -2,18 +2,17 @@
 ghost use Rattle.std.specs.Prelude.{◌≡◌, ◌≤◌, ◌*◌, length, OnOk, IfOk};
 ghost use Rattle.std.specs.List.{flat_map};
 ghost use Rattle.dsc_base.specs.Numbers.{little_bytes};
+ghost use Rattle.linkedit_merge.specs.Indices.{names_of, IsPool};
 ghost use Rattle.linkedit_merge.specs.Linkedit.{symbol_bytes};
 ghost use Rattle.linkedit_merge.specs.Parts as parts;
 ghost use Rattle.linkedit_merge.specs.Pool.{pool_bytes};
 ghost use Rattle.linkedit_merge.specs.Sizes.{opened};
 ghost use Rattle.extractor.specs.ExtractOf.{linkedit_limit};
 ghost use Rattle.extractor.specs.Files as spec;
-ghost use Rattle.extractor.specs.Pools.{names_of, IsPool};
 
-use crate::entries::{INDEX, SYMBOL, append_indices, append_symbols};
-use crate::pool::{Pool, append_pool};
-use crate::sizes::eight_up;
+use crate::entries::{INDEX, SYMBOL, append_symbols};
 use dsc_base::{NoMemory, Span};
+use linkedit_merge::{Pool, append_indices, append_pool, eight_up};
 use macho_image::Streams;
 use nlist_table::{Symbol, Tables};
 
@@ -69,7 +68,7 @@ fn put_part(out: &mut Vec<u8>, part: &[u8]) -> Result<Span, NoMemory>
 
 /// Puts the entries of symbols behind the other parts.
 fn put_symbols(out: &mut Vec<u8>, pool: &Pool<'_>, symbols: &[Symbol<'_>]) -> Result<Span, NoMemory>
-    requires pool { IsPool pool.now }
+    requires pool { IsPool linkedit_limit pool.now }
     requires few { 16 * length symbols.now ≤ linkedit_limit }
     ensures bytes { OnOk result (out.new.items ≡ parts.with_part out.old.items (flat_map (symbol_bytes (names_of pool.now)) symbols.now)) }
     ensures span { IfOk result (λ s. s ≡ parts.span_behind 0 (length out.old.items) (length (flat_map (symbol_bytes (names_of pool.now)) symbols.now))) }
@@ -92,7 +91,7 @@ fn put_indices(out: &mut Vec<u8>, indices: &[u32]) -> Result<Span, NoMemory>
 
 /// Puts a pool behind the other parts.
 fn put_pool(out: &mut Vec<u8>, pool: &Pool<'_>) -> Result<Span, NoMemory>
-    requires { IsPool pool.now }
+    requires { IsPool linkedit_limit pool.now }
     ensures bytes { OnOk result (out.new.items ≡ parts.with_part out.old.items (pool_bytes (names_of pool.now))) }
     ensures span { IfOk result (λ s. s ≡ parts.span_behind 0 (length out.old.items) (length (pool_bytes (names_of pool.now)))) }
 {
@@ -126,7 +125,7 @@ pub(crate) fn put_tables(
     tables: &Tables<'_>,
     pool: &Pool<'_>,
 ) -> Result<TableSpans, NoMemory>
-    requires pool { IsPool pool.now }
+    requires pool { IsPool linkedit_limit pool.now }
     requires few { spec.AreFew tables.now }
     ensures bytes { OnOk result (out.new.items ≡ parts.joined_behind out.old.items (spec.table_parts (names_of pool.now) tables.now)) }
     ensures spans { IfOk result (λ s. spec.table_spans s ≡ parts.spans_behind 0 (length out.old.items) (parts.lens_of (spec.table_parts (names_of pool.now) tables.now))) }

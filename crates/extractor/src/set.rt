@@ -10,9 +10,10 @@ ghost use Rattle.extractor.specs.Reading.{AreRead};
 ghost use Rattle.extractor.specs.Vetting as spec;
 
 use crate::links::read_all;
-use crate::symbols::{check_all_exports, place_all};
+use crate::symbols::place_all;
 use dep_closure::{Links, link_set};
 use dsc_base::{Finding, FindingKind, SetFault, ViewFault};
+use load_model::check_all_exports;
 use macho_image::Image;
 use prebind::{ImageStreams, PlacedWord, Set};
 use std::alloc::Global;

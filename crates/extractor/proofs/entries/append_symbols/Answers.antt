@@ -1,7 +1,7 @@
 -- One entry more.
 use Rattle.linkedit_merge.specs.Linkedit.{symbol_bytes}
 use Rattle.linkedit_merge.proofs.ListLaws.{appended}
-use Rattle.extractor.specs.Pools.{names_of}
+use Rattle.linkedit_merge.specs.Indices.{names_of}
 use Rattle.extractor.proofs.entries.append_symbols.Goals as goal
 
 pub loop-symbol-preserved : goal.loop-symbol-preserved

@@ -2,7 +2,7 @@
 use Rattle.std.proofs.Common.{◌≡◌, ◌++◌, take}
 use Rattle.std.specs.List.{flat_map}
 use Rattle.linkedit_merge.specs.Linkedit.{symbol_bytes}
-use Rattle.extractor.specs.Pools.{names_of}
+use Rattle.linkedit_merge.specs.Indices.{names_of}
 use Rattle.extractor.proofs.entries.append_symbols.Given as goal
 
 abbrev pub invariant-loop-symbol : goal.invariant-loop-symbol

@@ -3,7 +3,7 @@ use Rattle.std.proofs.Common.{◌∙◌, ℕ, List, length, ap, ap₂}
 use Rattle.macho_image.specs.Records.{StreamBytes, Img}
 use Rattle.linkedit_merge.specs.Parts.{joined_behind, spans_behind, lens_of}
 use Rattle.extractor.specs.Files.{stream_parts, table_parts, stream_spans, table_spans}
-use Rattle.extractor.specs.Pools.{names_of}
+use Rattle.linkedit_merge.specs.Indices.{names_of}
 use Rattle.extractor.proofs.JoinedLaws.{both_bytes, both_spans}
 use Rattle.extractor.proofs.extracting.put_linkedit.Goals as goal
 

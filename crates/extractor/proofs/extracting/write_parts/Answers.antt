@@ -5,7 +5,7 @@ use Rattle.macho_image.specs.Records.{Img}
 use Rattle.nlist_table.specs.Symbols.{Tabs}
 use Rattle.extractor.specs.ExtractOf.{linkedit_parts}
 use Rattle.extractor.specs.Files.{part_spans}
-use Rattle.extractor.specs.Pools.{names_of}
+use Rattle.linkedit_merge.specs.Indices.{names_of}
 use Rattle.extractor.specs.Prepared.{own_parts}
 use Rattle.extractor.proofs.FileLaws.{ready_parts, ready_few, behind_bodies, spans_there, bodies_put}
 use Rattle.extractor.proofs.SpotLaws.{spots_are}

@@ -1,7 +1,7 @@
 -- A part made ready, and then its bytes.
 use Rattle.linkedit_merge.specs.Pool.{pool_bytes}
 use Rattle.linkedit_merge.proofs.ShareLaws.{opened_part}
-use Rattle.extractor.specs.Pools.{names_of}
+use Rattle.linkedit_merge.specs.Indices.{names_of}
 use Rattle.extractor.proofs.parts.put_pool.Goals as goal
 
 pub returns-clause-bytes : goal.returns-clause-bytes

@@ -4,7 +4,7 @@ use Rattle.std.specs.List.{flat_map}
 use Rattle.linkedit_merge.specs.Linkedit.{symbol_bytes}
 use Rattle.linkedit_merge.specs.Parts.{span_behind}
 use Rattle.linkedit_merge.proofs.ShareLaws.{opened_part}
-use Rattle.extractor.specs.Pools.{names_of}
+use Rattle.linkedit_merge.specs.Indices.{names_of}
 use Rattle.extractor.proofs.PreparedLaws.{long_each}
 use Rattle.extractor.proofs.parts.put_symbols.Goals as goal
 

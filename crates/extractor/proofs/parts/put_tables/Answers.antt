@@ -6,7 +6,7 @@ use Rattle.linkedit_merge.specs.Linkedit.{symbol_bytes}
 use Rattle.linkedit_merge.specs.Parts.{with_part, span_behind}
 use Rattle.nlist_table.specs.Symbols.{Sym, Tabs}
 use Rattle.extractor.specs.Files.{table_parts}
-use Rattle.extractor.specs.Pools.{names_of}
+use Rattle.linkedit_merge.specs.Indices.{names_of}
 use Rattle.extractor.proofs.JoinedLaws.{put_bytes, put_spans}
 use Rattle.extractor.proofs.parts.put_tables.Goals as goal
 
