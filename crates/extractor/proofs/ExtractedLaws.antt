@@ -36,7 +36,7 @@ use Rattle.load_model.proofs.FirstLaws.{first_each}
 use Rattle.cache_check.specs.Images.{header_place, image_in, images_of, cached_images, rule_finding, broken_finding}
 use Rattle.cache_check.specs.Views.{View}
 use Rattle.cache_check.proofs.CachedLaws.{cached_are}
-use Rattle.extractor.specs.ExtractOf.{free_words, file_of, extract_of}
+use Rattle.extractor.specs.ExtractOf.{free_words, header_of, file_of, extract_of}
 use Rattle.extractor.specs.Extracted.{extracted_images, extracted_set, IsExtracted, AreExtracted}
 use Rattle.extractor.specs.Files.{CanExtract}
 use Rattle.extractor.specs.Placing.{data_start}
@@ -95,15 +95,16 @@ header_bytes b i of bytes m =
 
 -- ---- the file of one image
 
-record IsFile (p : Parts) (k : ℕ) (i : Img) : Type 0 where
-  words : List Location
-  words_are : words ≡ free_words (data_start p.view) p.view.words (images_of p.view) k i
-  sound : IsSound i
-  ready : CanExtract i words
-  is : extract_of p.view k ≡ file_of k i words
-  accepted : image_at Standalone (extract_of p.view k) 0 ≡ Some (own_image k i words)
-  own_sound : IsSound (own_image k i words)
-  streams : HasStreams i (own_image k i words) words
+pub record IsFile (p : Parts) (k : ℕ) (i : Img) : Type 0 where
+  pub words : List Location
+  pub words_are : words ≡ free_words (data_start p.view) p.view.words (images_of p.view) k i
+  pub sound : IsSound i
+  pub ready : CanExtract i words
+  pub sized : length (header_of k i words) ≡ length i.header
+  pub is : extract_of p.view k ≡ file_of k i words
+  pub accepted : image_at Standalone (extract_of p.view k) 0 ≡ Some (own_image k i words)
+  pub own_sound : IsSound (own_image k i words)
+  pub streams : HasStreams i (own_image k i words) words
 
 chains_none : (start : ℕ) (p : Parts) → words_finding start p.view.words (cached_set (images_of p.view)) ≡ None → chain_finding start p.view.words (cached_set (images_of p.view)) ≡ None
 unfolding words_finding
@@ -114,7 +115,7 @@ accepted_as file own accepted =
     let parts = image_at-some Standalone file 0 own accepted in
     subst IsSound (sym parts.1) (image_sound Standalone file 0 (λ (f : Standalone ≡ Standalone). refl) parts.0)
 
-one_file : (p : Parts) (k : ℕ) (i : Img) → IsVetted p → slice_get (images_of p.view) k ≡ Some i → IsFile p k i
+pub one_file : (p : Parts) (k : ℕ) (i : Img) → IsVetted p → slice_get (images_of p.view) k ≡ Some i → IsFile p k i
 unfolding own_image
 one_file p k i vetted got =
     let none = all_none p.view vetted.none in
@@ -138,6 +139,7 @@ one_file p k i vetted got =
       words_are = words_are;
       sound = image.sound;
       ready = ready;
+      sized = sized;
       is = is;
       accepted = ap (λ (l : List ℕ). image_at Standalone l 0) is ∙ accepted;
       own_sound = accepted_as (file_of k i words) _ accepted;
@@ -155,6 +157,14 @@ own_binds k i words sound ready streams =
     ap₂ (λ (b c : List ℕ). binds_of Bind b own ++ binds_of Lazy c own) streams.bind streams.lazy
     ∙ ap₂ (λ (b c : List BoundWord). b ++ c) bind.1 lazy.1
 
+pub file_binds : (p : Parts) (k : ℕ) (i : Img) (file : IsFile p k i) → all_binds (own_image k i file.words) ≡ all_binds i
+file_binds p k i file = own_binds k i file.words file.sound file.ready file.streams
+
+pub file_rebases : (p : Parts) (k : ℕ) (i : Img) (file : IsFile p k i) → rebases_of (own_image k i file.words).streams.rebase (own_image k i file.words) ≡ free_words (data_start p.view) p.view.words (images_of p.view) k i
+file_rebases p k i file =
+    let own = own_image k i file.words in
+    ap (λ (b : List ℕ). rebases_of b own) file.streams.rebase ∙ (rebases_back i own (own_like k i file.words file.sound) file.words file.own_sound file.ready.written ∙ file.words_are)
+
 pub is_extracted : (p : Parts) (k : ℕ) (i : Img) → IsVetted p → slice_get (images_of p.view) k ≡ Some i → (own : Img) × IsExtracted p.view k i own
 is_extracted p k i vetted got =
     let file = one_file p k i vetted got in
@@ -162,9 +172,9 @@ is_extracted p k i vetted got =
       own,
       record {
         accepted = file.accepted;
-        binds = own_binds k i file.words file.sound file.ready file.streams;
+        binds = file_binds p k i file;
         exports = ap exports_of file.streams.exports;
-        rebases = ap (λ (b : List ℕ). rebases_of b own) file.streams.rebase ∙ (rebases_back i own (own_like k i file.words file.sound) file.words file.own_sound file.ready.written ∙ file.words_are);
+        rebases = file_rebases p k i file;
       },
     )
 
@@ -202,6 +212,23 @@ file_past v a [] k past = past
 file_past v a (j ∷ js) zero past = absurd (cc)
 file_past v a (j ∷ js) (suc k) past = file_past v (a + 1) js k past
 
+many_images : (v : View) → length (images_of v) ≡ length v.head.images
+many_images v = length-map v.head.images (image_in v.flat)
+
+-- the image that the file of one has
+pub file_image : (p : Parts) (k : ℕ) (i : Img) (file : IsFile p k i) → slice_get (images_of p.view) k ≡ Some i → slice_get (extracted_images p.view) k ≡ Some (own_image k i file.words)
+file_image p k i file got =
+    let same = (image_at-some Standalone (extract_of p.view k) 0 (own_image k i file.words) file.accepted).1 in
+    let first : 0 + k ≡ k = omega arith in
+    subst (λ (n : ℕ). slice_get (map (λ (f : List ℕ). image_of f 0) (map (extract_of p.view) (range_with_len 0 n))) k ≡ Some (image_of (extract_of p.view k) 0)) (many_images p.view)
+    (file_at p.view 0 (images_of p.view) k i got ∙ ap (λ (n : ℕ). let o : Option Img = Some (image_of (extract_of p.view n) 0) in o) first)
+    ∙ ap (λ (j : Img). let o : Option Img = Some j in o) (sym same)
+
+-- there is none where the cache has none
+pub no_file_image : (v : View) (k : ℕ) → slice_get (images_of v) k ≡ None → slice_get (extracted_images v) k ≡ None
+no_file_image v k past =
+    subst (λ (n : ℕ). slice_get (map (λ (file : List ℕ). image_of file 0) (map (extract_of v) (range_with_len 0 n))) k ≡ None) (many_images v) (file_past v 0 (images_of v) k past)
+
 -- ---- no export strays
 
 no_break : (o : Option Break) → option_map break_finding o ≡ None → o ≡ None
@@ -214,6 +241,12 @@ symbols_none images none =
     let sums = neither (sums_from 0 0 0 images) _ (no_break (set_break images) none) in
     let links = neither (link_break images) _ sums.1 in
     (neither (symbols_break (cached_set images)) None links.1).0
+
+pub linked_none : (images : List Img) → link_finding images ≡ None → link_break images ≡ None
+unfolding link_finding set_break
+linked_none images none =
+    let sums = neither (sums_from 0 0 0 images) _ (no_break (set_break images) none) in
+    (neither (link_break images) _ sums.1).0
 
 exports_none : (images : List Img) → link_finding images ≡ None → first_of (export_break (cached_set images)) (length images) ≡ None
 unfolding symbols_break cached_set
@@ -241,7 +274,7 @@ past_exports [] k past = refl
 past_exports (i ∷ is) zero past = absurd (cc)
 past_exports (i ∷ is) (suc k) past = past_exports is k past
 
-cached_inside : (images : List Img) → link_finding images ≡ None → HaveExportsInside (cached_set images)
+pub cached_inside : (images : List Img) → link_finding images ≡ None → HaveExportsInside (cached_set images)
 unfolding export_break cached_set
 cached_inside images none k = go (slice_get images k) refl
   where
@@ -260,23 +293,13 @@ set_exports p vetted = same_exports cached_lists lists_of (images_of p.view) (ex
 stays_at : (p : Parts) (k : ℕ) (t : Target) → IsVetted p → strays (segments_at (images_of p.view) k) t ≡ false → strays (segments_at (extracted_images p.view) k) t ≡ false
 stays_at p k t vetted = go (slice_get (images_of p.view) k) refl
   where
-    many : length (images_of p.view) ≡ length p.view.head.images
-    many = length-map p.view.head.images (image_in p.view.flat)
-
     go : (o : Option Img) → slice_get (images_of p.view) k ≡ o → strays (segments_at (images_of p.view) k) t ≡ false → strays (segments_at (extracted_images p.view) k) t ≡ false
     go None past stays =
-        let own : slice_get (extracted_images p.view) k ≡ None = subst (λ (n : ℕ). slice_get (map (λ (file : List ℕ). image_of file 0) (map (extract_of p.view) (range_with_len 0 n))) k ≡ None) many (file_past p.view 0 (images_of p.view) k past) in
-        ap (λ (o : Option Img). strays (segments_in o) t) own ∙ (sym (ap (λ (o : Option Img). strays (segments_in o) t) past) ∙ stays)
+        ap (λ (o : Option Img). strays (segments_in o) t) (no_file_image p.view k past) ∙ (sym (ap (λ (o : Option Img). strays (segments_in o) t) past) ∙ stays)
     go (Some i) got stays =
         let file = one_file p k i vetted got in
-        let same = (image_at-some Standalone (extract_of p.view k) 0 (own_image k i file.words) file.accepted).1 in
-        let first : 0 + k ≡ k = omega arith in
-        let own : slice_get (extracted_images p.view) k ≡ Some (image_of (extract_of p.view k) 0) =
-        subst (λ (n : ℕ). slice_get (map (λ (f : List ℕ). image_of f 0) (map (extract_of p.view) (range_with_len 0 n))) k ≡ Some (image_of (extract_of p.view k) 0)) many
-        (file_at p.view 0 (images_of p.view) k i got ∙ ap (λ (n : ℕ). let o : Option Img = Some (image_of (extract_of p.view n) 0) in o) first) in
-        ap (λ (o : Option Img). strays (segments_in o) t) own
-        ∙ (ap (λ (j : Img). strays j.segments t) (sym same)
-        ∙ target_stays k i file.words t file.own_sound (own_alike k i file.words file.streams) (sym (ap (λ (o : Option Img). strays (segments_in o) t) got) ∙ stays))
+        ap (λ (o : Option Img). strays (segments_in o) t) (file_image p k i file got)
+        ∙ (target_stays k i file.words t file.own_sound (own_alike k i file.words file.streams) (sym (ap (λ (o : Option Img). strays (segments_in o) t) got) ∙ stays))
 
 extracted_inside : (p : Parts) → IsVetted p → HaveExportsInside (extracted_set p.view)
 unfolding export_break image_set cached_set
@@ -296,7 +319,7 @@ agree p vetted = record {
   headers = same_headers (images_of p.view) (extracted_images p.view) (all_alike p vetted);
 }
 
-bodies : (p : Parts) → IsVetted p → HaveSameBodies (extracted_set p.view) (cached_set (images_of p.view))
+pub bodies : (p : Parts) → IsVetted p → HaveSameBodies (extracted_set p.view) (cached_set (images_of p.view))
 unfolding image_set cached_set
 bodies p vetted n = same_bodies (images_of p.view) (extracted_images p.view) (all_alike p vetted) n
 

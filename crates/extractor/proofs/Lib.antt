@@ -1,6 +1,8 @@
 pub mod AgreeLaws
 pub mod AlikeLaws
+pub mod BehindLaws
 pub mod BodyLaws
+pub mod BoundSpots
 pub mod BoundsLaws
 pub mod ChainLaws
 pub mod ExtractedLaws
@@ -10,8 +12,12 @@ pub mod FreeLaws
 pub mod HomeLaws
 pub mod JoinedLaws
 pub mod LimitLaws
+pub mod LoadLaws
+pub mod LoadedFiles
 pub mod MoveLaws
+pub mod NearLaws
 pub mod OwnAlike
+pub mod OwnBytes
 pub mod OwnRebases
 pub mod OwnSections
 pub mod OwnSegments
@@ -23,8 +29,11 @@ pub mod PreparedLaws
 pub mod ReadLaws
 pub mod ReadyLaws
 pub mod RoomLaws
+pub mod SectionBytes
 pub mod SetLaws
 pub mod SpotLaws
 pub mod SumsLaws
 pub mod VetLaws
+pub mod VettedCaches
+pub mod VettedLaws
 pub mod WritableLaws

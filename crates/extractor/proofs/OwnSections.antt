@@ -30,7 +30,7 @@ use Rattle.extractor.proofs.PlacedLaws.{move_at}
 
 -- ---- the command of a section's segment
 
-one_of_two : (us vs : List Section) (j : ℕ) (u : Section) → slice_get (us ++ vs) j ≡ Some u → (slice_get us j ≡ Some u) ⊎ ((n : ℕ) × (slice_get vs n ≡ Some u))
+pub one_of_two : (us vs : List Section) (j : ℕ) (u : Section) → slice_get (us ++ vs) j ≡ Some u → (slice_get us j ≡ Some u) ⊎ ((n : ℕ) × (slice_get vs n ≡ Some u))
 one_of_two [] vs j u got = inr (j, got)
 one_of_two (v ∷ us) vs zero u got = inl got
 one_of_two (v ∷ us) vs (suc j) u got = one_of_two us vs j u got

@@ -96,7 +96,7 @@ one_placed size mappings s mapped few placed =
     ] in
     record { low = range.0; high = omega (arith, range.1, few); filled = eqb-true s.filesize s.vmsize parts.1 }
 
-none_found : (k : ℕ) (o : Option ℕ) → option_map (λ (g : ℕ). finding SegmentOutside k g) o ≡ None → o ≡ None
+pub none_found : (k : ℕ) (o : Option ℕ) → option_map (λ (g : ℕ). finding SegmentOutside k g) o ≡ None → o ≡ None
 none_found k None none = refl
 none_found k (Some g) none = absurd (cc)
 

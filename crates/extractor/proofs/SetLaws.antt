@@ -23,7 +23,7 @@ unfolding rebases_of rebase_break records opcodes_in reading_break first_close
 no_rebases i [] is = (refl, refl)
 no_rebases i (b ∷ bs) is = absurd (cc)
 
-streams_sound : (i : Img) → IsRead i → AreStreamsOf i (cached_lists i)
+pub streams_sound : (i : Img) → IsRead i → AreStreamsOf i (cached_lists i)
 streams_sound i read =
     let none = no_rebases i i.streams.rebase read.rebases in
     record {

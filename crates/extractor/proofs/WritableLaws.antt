@@ -25,10 +25,11 @@ use Rattle.extractor.specs.Placing.{has_data, home_in, or_else, home_from, home_
 use Rattle.extractor.specs.ExtractOf.{is_home, is_free, location_at, location_of, free_words}
 use Rattle.extractor.specs.Chained.{HaveAddresses}
 use Rattle.extractor.specs.Vetting.{cached_set, earlier, by_image, outside_in, outside_at, outside_of, is_outside, chain_finding}
+use Rattle.extractor.proofs.ChainLaws.{binds_are}
 
 -- ---- the segment of a home
 
-record IsAt (k g : ℕ) (ss : List Seg) (a : ℕ) (h : Home) : Type 0 where
+pub record IsAt (k g : ℕ) (ss : List Seg) (a : ℕ) (h : Home) : Type 0 where
   pub image : h.image ≡ k
   pub place : ℕ
   pub number : h.segment ≡ g + place
@@ -69,7 +70,7 @@ home_at : (k g : ℕ) (ss : List Seg) (a : ℕ) (h : Home) → home_in k g ss a 
 home_at k g [] a h is = absurd (cc)
 home_at k g (s ∷ ss) a h is = at_test k g s ss a h (has_data a s) refl (λ later. home_at k (g + 1) ss a h later) is
 
-record IsIn (k : ℕ) (images : List Img) (a : ℕ) (h : Home) : Type 0 where
+pub record IsIn (k : ℕ) (images : List Img) (a : ℕ) (h : Home) : Type 0 where
   pub place : ℕ
   pub number : h.image ≡ k + place
   pub image : Img
@@ -85,7 +86,7 @@ in_test k i is a h (Some m) found others there =
     let at = home_at k 0 i.segments a h (found ∙ ap (λ (n : Home). let o : Option Home = Some n in o) e) in
     record { place = 0; number = omega (arith, at.image); image = i; there = refl; at = subst (λ (n : ℕ). IsAt n 0 i.segments a h) (sym at.image) at }
 
-image_at : (k : ℕ) (images : List Img) (a : ℕ) (h : Home) → home_from k images a ≡ Some h → IsIn k images a h
+pub image_at : (k : ℕ) (images : List Img) (a : ℕ) (h : Home) → home_from k images a ≡ Some h → IsIn k images a h
 image_at k [] a h is = absurd (cc)
 image_at k (i ∷ is) a h found = in_test k i is a h (home_in k 0 i.segments a) refl (λ later. image_at (k + 1) is a h later) found
 
@@ -113,10 +114,11 @@ all_inside start words images none = each_none (outside_of start (cached_set ima
 
 -- ---- one word
 
-record IsGood (i : Img) (g a : ℕ) : Type 0 where
+record IsGood (i : Img) (binds : List BoundWord) (g a : ℕ) : Type 0 where
   pub few : g < 16
   pub info : not i.has_dyld_info ≡ false
   pub fine : place_fault i (Some g) (offset_in i g a) 0 ≡ None
+  pub clear : is_crossed binds a ≡ false
 
 or_none : (a b : Bool) → (a || b) ≡ false → (a ≡ false) × (b ≡ false)
 or_none false b none = (refl, none)
@@ -126,7 +128,7 @@ is_none : (o : Option PlaceFault) → is_some o ≡ false → o ≡ None
 is_none None none = refl
 is_none (Some f) none = absurd (cc)
 
-good : (i : Img) (binds : List BoundWord) (g a : ℕ) → is_outside i binds g a ≡ false → IsGood i g a
+good : (i : Img) (binds : List BoundWord) (g a : ℕ) → is_outside i binds g a ≡ false → IsGood i binds g a
 good i binds g a none =
     let one = or_none (nat_lt 15 g) (not i.has_dyld_info || (is_some (place_fault i (Some g) (offset_in i g a) 0) || is_crossed binds a)) none in
     let two = or_none (not i.has_dyld_info) (is_some (place_fault i (Some g) (offset_in i g a) 0) || is_crossed binds a) one.1 in
@@ -138,6 +140,7 @@ good i binds g a none =
       ];
       info = two.0;
       fine = is_none (place_fault i (Some g) (offset_in i g a) 0) three.0;
+      clear = three.1;
     }
   where
     lt_true : 15 < g → nat_lt 15 g ≡ true
@@ -155,12 +158,13 @@ located i g a s there low high =
     ap (λ (o : Option Seg). location_in i.sections g o (offset_from o a)) there
     ∙ ap (λ (x : ℕ). let l : Location = record { segment = g; section = unwrap_or (section_at i.sections g x) 0; address = x } in l) back
 
-record IsWritable (i : Img) (l : Location) : Type 0 where
+pub record IsWritable (i : Img) (l : Location) : Type 0 where
   pub word : IsWord i l
   pub low : l.segment < 16
   pub info : not i.has_dyld_info ≡ false
+  pub clear : is_crossed (all_binds i) l.address ≡ false
 
-written : (start : ℕ) (images : List Img) (k : ℕ) (i : Img) (w : ChainWord) (o : Option Home) → home_of images (start + w.offset) ≡ o → slice_get images k ≡ Some i → is_home k o ≡ true → start + w.offset < 2 ^ 64
+pub written : (start : ℕ) (images : List Img) (k : ℕ) (i : Img) (w : ChainWord) (o : Option Home) → home_of images (start + w.offset) ≡ o → slice_get images k ≡ Some i → is_home k o ≡ true → start + w.offset < 2 ^ 64
     → outside_at (cached_set images) w (start + w.offset) o ≡ None → IsWritable i (location_at i (start + w.offset) o)
 unfolding cached_set home_of
 written start images k i w None home got is high none = absurd (false≢true is)
@@ -180,6 +184,7 @@ written start images k i w (Some h) home got is high none =
       word = subst (λ (l : Location). IsWord i l) (located i h.segment a at.segment there at.low high) (accepted_one i (Some h.segment) (offset_in i h.segment a) 0 fine.fine).word;
       low = fine.few;
       info = fine.info;
+      clear = ap (λ (bs : List BoundWord). is_crossed bs a) (sym (binds_are images h.image i here)) ∙ fine.clear;
     }
   where
     same_image : (a b : Img) → Some a ≡ Some b → a ≡ b
@@ -195,7 +200,7 @@ record AreWritable (i : Img) (from : ℕ) (ls : List Location) : Type 0 where
   pub each : All (IsWritable i) ls
   pub apart : spaced from ls
 
-address_is : (i : Img) (a : ℕ) (o : Option Home) → (location_at i a o).address ≡ a
+pub address_is : (i : Img) (a : ℕ) (o : Option Home) → (location_at i a o).address ≡ a
 address_is i a None = refl
 address_is i a (Some h) = refl
 

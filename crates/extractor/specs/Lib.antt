@@ -6,6 +6,7 @@ pub mod Faults
 pub mod Files
 pub mod Free
 pub mod Homes
+pub mod Loads
 pub mod Placing
 pub mod Prepared
 pub mod Reading

@@ -1,9 +1,11 @@
 // A cache that was vetted whole.
-ghost use Rattle.std.specs.Prelude.{◌≡◌, position, IfOk};
+ghost use Rattle.std.specs.Prelude.{◌≡◌, None, position, IfOk};
 ghost use Rattle.dsc_base.specs.Refusals.{RefusesView};
 ghost use Rattle.macho_image.specs.Rules.{same_bytes};
 ghost use Rattle.cache_check.specs.Shape.{data_mapping};
+ghost use Rattle.cache_check.specs.Views.{view_of, view_finding};
 ghost use Rattle.extractor.specs.Extracted.{AreExtracted};
+ghost use Rattle.extractor.specs.Loads.{IsExtraction};
 ghost use Rattle.extractor.specs.Placing.{data_start};
 ghost use Rattle.extractor.specs.Vetting.{vet_finding};
 
@@ -156,6 +158,18 @@ impl<'a> Vetted<'a> {
     pub fn promise(&self)
         ensures { AreExtracted self.now.view }
     {
+        let _ = &self.free;
+    }
+
+    /// Does nothing; its contract tells the same of the files by the cache itself, which this view is of and in
+    /// which nothing is found. And loaded together, each at the same slide that the cache's header permits, they
+    /// have on each of their sections the bytes of the cache mapped at that slide.
+    pub fn promise_of(&self, cache: &[u8])
+        requires read { view_finding cache.now ≡ None }
+        requires view { view_of cache.now ≡ self.now.view }
+        ensures { IsExtraction cache.now }
+    {
+        are_bytes(cache);
         let _ = &self.free;
     }
 }
