@@ -1,8 +1,9 @@
 -- The segments of an image with `__LINKEDIT` by its addresses alone, looked up.
-use Rattle.std.proofs.Common.{◌≡◌, ◌+◌, ◌-◌, ℕ, zero, suc, Bool, true, false, not, nat_le, List, [], ◌∷◌, ◌++◌, length, refl, sym, ap, ◌∙◌, arith, if◌then◌else◌, Option, Some, None}
+use Rattle.std.proofs.Common.{◌≡◌, ◌+◌, ◌-◌, ◌≤◌, ◌<◌, ℕ, zero, suc, Bool, true, false, not, nat_le, List, [], ◌∷◌, ◌++◌, length, refl, sym, ap, ◌∙◌, arith, if◌then◌else◌, Option, Some, None}
 use Rattle.std.specs.Prelude.{slice_get, All}
 use Rattle.std.specs.Option.{option_or}
 use Rattle.dsc_base.specs.declared.fault.Span.{Span}
+use Rattle.std.proofs.lemmas.Bool.Decides.{nat_tests}
 use Rattle.std.proofs.lemmas.List.Elements.{All-head, All-tail}
 use Rattle.macho_image.specs.Records.{Seg}
 use Rattle.macho_image.specs.Rules.{is_linkedit_segment}
@@ -77,8 +78,20 @@ not_is : (b : Bool) → not b ≡ true → b ≡ false
 not_is false is = refl
 not_is true is = absurd (cc)
 
+numbered_before : (ss : List Seg) (linkedit : Span) (g : ℕ) → All (λ (s : Seg). is_body s ≡ true) ss → g < length ss → is_linkedit_at (slice_get (whole_of ss linkedit) g) ≡ false
+numbered_before [] linkedit g others lt = absurd (omega (arith, lt))
+numbered_before (s ∷ ss) linkedit zero others lt = not_is (is_linkedit_segment s) (All-head (λ (s : Seg). is_body s ≡ true) s ss others)
+numbered_before (s ∷ ss) linkedit (suc g) others lt = numbered_before ss linkedit g (All-tail (λ (s : Seg). is_body s ≡ true) s ss others) (omega (arith, lt))
+
+numbered_behind : (ss : List Seg) (linkedit : Span) (g : ℕ) → length ss ≤ g → is_linkedit_at (slice_get (whole_of ss linkedit) g) ≡ true
+numbered_behind [] linkedit zero le = refl
+numbered_behind [] linkedit (suc g) le = refl
+numbered_behind (s ∷ ss) linkedit zero le = absurd (omega (arith, le))
+numbered_behind (s ∷ ss) linkedit (suc g) le = numbered_behind ss linkedit g (omega (arith, le))
+
 pub linkedit_by_number : (ss : List Seg) (linkedit : Span) (g : ℕ) → All (λ (s : Seg). is_body s ≡ true) ss → nat_le (length ss) g ≡ is_linkedit_at (slice_get (whole_of ss linkedit) g)
-linkedit_by_number [] linkedit zero others = refl
-linkedit_by_number [] linkedit (suc g) others = refl
-linkedit_by_number (s ∷ ss) linkedit zero others = sym (not_is (is_linkedit_segment s) (All-head (λ (s : Seg). is_body s ≡ true) s ss others))
-linkedit_by_number (s ∷ ss) linkedit (suc g) others = linkedit_by_number ss linkedit g (All-tail (λ (s : Seg). is_body s ≡ true) s ss others)
+linkedit_by_number ss linkedit g others = by_test (nat_le (length ss) g) refl
+  where
+    by_test : (b : Bool) → nat_le (length ss) g ≡ b → b ≡ is_linkedit_at (slice_get (whole_of ss linkedit) g)
+    by_test true is = sym (numbered_behind ss linkedit g (grind (arith, nat_tests, is)))
+    by_test false is = sym (numbered_before ss linkedit g others (grind (arith, nat_tests, is)))
