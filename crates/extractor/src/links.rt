@@ -13,10 +13,10 @@ ghost use Rattle.extractor.specs.Reading.{AreRead, IsRead};
 
 use bind_ops::{Bind, StreamKind, read_binds};
 use dsc_base::{Fault, NoMemory, SetFault};
-use export_trie::{Export, read_trie};
+use export_trie::Export;
 use load_model::{Totals, total_with};
 use macho_image::Image;
-use prebind::ImageStreams;
+use prebind::{ImageStreams, read_exports};
 use std::alloc::Global;
 
 /// The binds of a stream that is accepted.
@@ -40,10 +40,7 @@ fn exports_in(alloc: Global, image: &Image<'_>) -> Result<Vec<Export>, NoMemory>
     requires { IsRead image.now }
     ensures { IfOk result (λ v. v.items ≡ exports_of image.now.streams.exports) }
 {
-    match read_trie(alloc, image.streams.exports) {
-        Ok(exports) => Ok(exports),
-        Err(_) => Err(NoMemory),
-    }
+    read_exports(alloc, image.streams.exports)
 }
 
 /// What the streams of an image of a cache spell: the binds of both streams, and its export trie.

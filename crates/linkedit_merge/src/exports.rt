@@ -8,8 +8,9 @@ ghost use Rattle.export_trie.specs.Writing.{IsWritable};
 ghost use Rattle.linkedit_merge.specs.Exports as spec;
 
 use dsc_base::NoMemory;
-use export_trie::{Export, Target, read_trie};
+use export_trie::{Export, Target};
 use macho_image::{Image, Moves, Segment, SegmentIndex, header_address, text_number};
+use prebind::read_exports;
 use std::alloc::Global;
 
 /// Where a segment starts after the moves; 0 for one that isn't there.
@@ -123,18 +124,6 @@ fn move_each(
         moved.push(moved_export(segments, index, moves, header, export))?;
     }
     Ok(moved)
-}
-
-/// All exports of a trie that is accepted.
-fn read_exports(alloc: Global, trie: &[u8]) -> Result<Vec<Export>, NoMemory>
-    requires { trie_break trie.now ≡ None }
-    ensures exports { IfOk result (λ exports. exports.items ≡ exports_of trie.now) }
-    ensures writable { IfOk result (λ exports. IsWritable exports.items) }
-{
-    match read_trie(alloc, trie) {
-        Ok(exports) => Ok(exports),
-        Err(_) => Err(NoMemory),
-    }
 }
 
 /// The exports of an image whose segments go where the moves say: an offset leads to the same byte as

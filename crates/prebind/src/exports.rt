@@ -5,6 +5,7 @@ ghost use Rattle.export_trie.specs.Order.{trie_break};
 ghost use Rattle.macho_image.specs.Index.{Indexes};
 ghost use Rattle.macho_image.specs.Segments.{header_address};
 ghost use Rattle.export_trie.specs.Exports.{exports_of};
+ghost use Rattle.export_trie.specs.Writing.{IsWritable};
 ghost use Rattle.prebind.specs.Places as spec;
 ghost use Rattle.prebind.specs.Sets.{IsSoundSet};
 ghost use Rattle.prebind.specs.Steps.{set_of};
@@ -15,10 +16,11 @@ use export_trie::{Export, Target, read_trie};
 use macho_image::{Image, Segment, SegmentIndex, header_address};
 use std::alloc::Global;
 
-// All exports of a trie that is accepted.
-fn read_exports(alloc: Global, trie: &[u8]) -> Result<Vec<Export>, NoMemory>
+/// All exports of a trie that breaks no rule, in bytewise order of names. `NoMemory` says that memory ran out.
+pub fn read_exports(alloc: Global, trie: &[u8]) -> Result<Vec<Export>, NoMemory>
     requires { trie_break trie.now ≡ None }
-    ensures { IfOk result (λ exports. exports.items ≡ exports_of trie.now) }
+    ensures exports { IfOk result (λ exports. exports.items ≡ exports_of trie.now) }
+    ensures writable { IfOk result (λ exports. IsWritable exports.items) }
 {
     match read_trie(alloc, trie) {
         Ok(exports) => Ok(exports),

@@ -21,7 +21,7 @@ mod spans;
 mod tests;
 mod words;
 
-pub use exports::check_exports;
+pub use exports::{check_exports, read_exports};
 pub use index::{Frame, Indexed, index_set};
 pub use place::{place_binds_by, place_words, place_words_by};
 pub use place_indexed::{body_segments, place_words_indexed};

@@ -21,7 +21,7 @@ use Rattle.cache_layout.specs.Layouts.{Laid, layout_of}
 use Rattle.cache_layout.specs.Apart.{IsSegment, move_at}
 use Rattle.cache_layout.specs.Parts.{part_in, image_part}
 use Rattle.cache_layout.proofs.PlaceLaws.{place_of, mapped, unmapped, move_at-own}
-use Rattle.cache_layout.proofs.RoomLaws.{paged-covers}
+use Rattle.cache_layout.proofs.RoomLaws.{paged-covers, is_same-self}
 use Rattle.cache_layout.proofs.SoundLaws.{sound_linkedit}
 use Rattle.cache_layout.proofs.SpanLaws.{image_ends, place-starts, place-in_image}
 use Rattle.ref_rewrite.specs.Plans.{Part, IsInside}
@@ -115,11 +115,6 @@ same_mapping Writable Fixed is = absurd (cc)
 same_mapping Fixed Text is = absurd (cc)
 same_mapping Fixed Writable is = absurd (cc)
 
-self_same : (m : Mapping) → is_same m m ≡ true
-self_same Text = refl
-self_same Writable = refl
-self_same Fixed = refl
-
 pub padded_long : (size : ℕ) (bytes : List ℕ) → length bytes ≤ size → length (padded size bytes) ≡ size
 padded_long size bytes le = length-append bytes (replicate (size - length bytes) 0) ∙ omega (arith, le, length-replicate {A = ℕ} (size - length bytes) 0)
 
@@ -142,8 +137,8 @@ one_copied is k g i s m n front rest at there own le long = elim (cases_Bool (is
       let high = place-in_image is k g i s m there mine in
       let lies : lies_in span (move_at (layout_of is) k g).file (length s.bytes) ≡ true = lies_yes span (move_at (layout_of is) k g).file (length s.bytes) (omega (arith, file, low)) (omega (arith, file, high, le)) in
       let place : (move_at (layout_of is) k g).file - span.at ≡ length front = omega (arith, file, long) in
-      let room : room_of m s ≡ paged s.vmsize = ap (λ (o : Option Mapping). share m o (paged s.vmsize)) mine ∙ cond-true (is_same m m) (paged s.vmsize) 0 (self_same m) in
-      let part : part_in m (mapping_of s) (plain_pages s) ≡ plain_pages s = ap (λ (o : Option Mapping). part_in m o (plain_pages s)) mine ∙ cond-true (is_same m m) (plain_pages s) [] (self_same m) in
+      let room : room_of m s ≡ paged s.vmsize = ap (λ (o : Option Mapping). share m o (paged s.vmsize)) mine ∙ cond-true (is_same m m) (paged s.vmsize) 0 (is_same-self m) in
+      let part : part_in m (mapping_of s) (plain_pages s) ≡ plain_pages s = ap (λ (o : Option Mapping). part_in m o (plain_pages s)) mine ∙ cond-true (is_same m m) (plain_pages s) [] (is_same-self m) in
       part_within span (copy_of (layout_of is) k (g, s)) (front ++ replicate (room_of m s + rest) 0) lies
       ∙ (ap₂ (λ (x y : ℕ). put_bytes (front ++ replicate (x + rest) 0) y s.bytes) room place
       ∙ (put_front front s.bytes (paged s.vmsize) rest le ∙ ap (λ (bytes : List ℕ). (front ++ bytes) ++ replicate rest 0) (sym part)))
@@ -264,7 +259,7 @@ header_put is k i m header at long (s ∷ rest) all some =
           let high = place-in_image is k 0 i s m there mine in
           let lies : lies_in span (move_at (layout_of is) k 0).file (length header) ≡ true = lies_yes span (move_at (layout_of is) k 0).file (length header) (omega (arith, file)) (omega (arith, file, high, le, fits)) in
           let place : (move_at (layout_of is) k 0).file - span.at ≡ 0 = omega (arith, file) in
-          let part : (bytes : List ℕ) → part_in m (mapping_of s) bytes ≡ bytes = λ bytes. ap (λ (o : Option Mapping). part_in m o bytes) mine ∙ cond-true (is_same m m) bytes [] (self_same m) in
+          let part : (bytes : List ℕ) → part_in m (mapping_of s) bytes ≡ bytes = λ bytes. ap (λ (o : Option Mapping). part_in m o bytes) mine ∙ cond-true (is_same m m) bytes [] (is_same-self m) in
           part_within span (record { at = (move_at (layout_of is) k 0).file; bytes = header }) (plain_part m 0 ss) lies
           ∙ (ap₂ (λ (x : ℕ) (b : List ℕ). put_bytes (b ++ plain_part m 1 rest) x header) place (part (plain_pages s))
           ∙ (headed_pages header s.bytes (plain_part m 1 rest) (paged s.vmsize) le fits

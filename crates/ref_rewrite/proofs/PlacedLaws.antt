@@ -1,5 +1,5 @@
 -- The pointers of an image of a sound set: each is a word of its segment, which alone contains it.
-use Rattle.std.proofs.Common.{◌≡◌, ◌<◌, ℕ, ◌-◌, true, false, Option, Some, None, List, ◌++◌, map, filter, length, get_or, sym, ap, subst, ◌∙◌, arith, inl, inr}
+use Rattle.std.proofs.Common.{◌≡◌, ◌<◌, ℕ, ◌-◌, true, false, Option, Some, None, List, ◌++◌, map, filter, length, get_or, sym, ap, subst, ◌∙◌, true≢false, arith, inl, inr}
 use Rattle.std.specs.Prelude.{nat_eq, slice_get}
 use Rattle.std.specs.List.{All, Contains}
 use Rattle.std.proofs.lemmas.Bool.{cases_Bool, eq-eqb, eqb-true}
@@ -98,16 +98,13 @@ word_belongs image w g s apart word at = elim (cases_Bool (nat_eq w.segment g)) 
             let there : inside image.segments w.address ≡ Some (record { segment = w.segment; distance = w.address - word.segment.vmaddr }) =
             inside_here image.segments w.segment word.segment w.address apart word.segment_is word.from (omega (arith, word.to)) in
             let number : w.segment ≡ g = numbers w.segment g (w.address - word.segment.vmaddr) (w.address - s.vmaddr) (sym there ∙ here) in
-            absurd (differ (sym (eq-eqb w.segment g number) ∙ other))
+            absurd (true≢false (sym (eq-eqb w.segment g number) ∙ other))
         | inr none ↦ other ∙ sym none
       ]
 ]
   where
     numbers : (a b c d : ℕ) → ◌≡◌ {A = Option Inside} (Some (record { segment = a; distance = c })) (Some (record { segment = b; distance = d })) → a ≡ b
     numbers a b c d e = ap number_found e
-
-    differ : true ≡ false → ⊥
-    differ e = cc
 
 pub words_belong : (image : Img) (words : List PlacedWord) → IsSound image → All (λ (w : PlacedWord). IsWord image w.at) words → Belong words image.segments
 words_belong image words sound all g s at i d lt = word_belongs image (get_or words i d).at g s (segments_keep_apart image sound) (all i d lt) at

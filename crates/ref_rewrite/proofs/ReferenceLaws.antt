@@ -1,7 +1,8 @@
 -- References that are no pointers, one more at a time, and those that have no bytes for their new numbers.
-use Rattle.std.proofs.Common.{◌≡◌, ◌<◌, ◌+◌, ℕ, Bool, true, false, not, ◌&&◌, ◌||◌, List, [], ◌∷◌, ◌++◌, length, map, filter, take, get_or, refl, sym, ap, ap₂, ◌∙◌, append_assoc, Option, Some, None}
+use Rattle.std.proofs.Common.{◌≡◌, ◌<◌, ◌+◌, ℕ, Bool, true, false, not, ◌&&◌, ◌||◌, List, [], ◌∷◌, ◌++◌, length, map, filter, take, get_or, refl, sym, ap, ap₂, ◌∙◌, append_assoc, true≢false, Option, Some, None}
 use Rattle.std.specs.Prelude.{position}
 use Rattle.std.specs.List.{list_any}
+use Rattle.std.proofs.lemmas.Bool.{and_parts}
 use Rattle.std.proofs.lemmas.List.{map-append, take_more}
 use Rattle.std.proofs.lemmas.List.Elements.{filter-append}
 use Rattle.std.proofs.lemmas.List.Folds.{list_any_more, list_any_at}
@@ -22,16 +23,13 @@ use Rattle.ref_rewrite.specs.Breaks.{is_delta, is_offset, is_out_of_range}
 use Rattle.ref_rewrite.specs.Moving.{new_number, edit_of, can_lead}
 use Rattle.ref_rewrite.specs.Steps.{misfits, edits_of, references_break}
 
-differ : true ≡ false → ⊥
-differ e = cc
-
 -- a pointer has bytes for any number
 pub pointer_fits : (kind : RefKind) (n : ℕ) (b : Bool) → b ≡ not (not (is_pointer kind)) → b ≡ true → false ≡ not (fits kind n)
 unfolding fits
 pointer_fits Pointer64 n b is holds = refl
-pointer_fits Delta32 n b is holds = absurd (differ (sym holds ∙ is))
-pointer_fits Delta64 n b is holds = absurd (differ (sym holds ∙ is))
-pointer_fits ImageOff32 n b is holds = absurd (differ (sym holds ∙ is))
+pointer_fits Delta32 n b is holds = absurd (true≢false (sym holds ∙ is))
+pointer_fits Delta64 n b is holds = absurd (true≢false (sym holds ∙ is))
+pointer_fits ImageOff32 n b is holds = absurd (true≢false (sym holds ∙ is))
 
 -- ---- one more
 
@@ -64,19 +62,15 @@ edits_anywhere l k xs ss (r ∷ rs) = ap (λ (es : List Edit). edit_of l k ss (r
 
 -- ---- none without bytes
 
-and_last : (a b : Bool) → (a && b) ≡ true → b ≡ true
-and_last true b is = is
-and_last false b is = absurd (differ (sym is))
-
 out_misfits : (kinds : RefKind → Bool) (l : Laid) (k : ℕ) (ss : List Seg) (r : Reference) → is_out_of_range kinds l k [] ss r ≡ true → misfits l k ss r ≡ true
 unfolding can_lead
-out_misfits kinds l k ss r out = and_last (kinds r.kind) (misfits l k ss r) out
+out_misfits kinds l k ss r out = (and_parts (kinds r.kind) (misfits l k ss r) out).1
 
 contradicted : (kinds : RefKind → Bool) (l : Laid) (k : ℕ) (ss : List Seg) (rs : List Reference) (i : ℕ) → position (is_out_of_range kinds l k [] ss) rs ≡ Some i → list_any (misfits l k ss) rs ≡ false → ⊥
-contradicted kinds l k ss [] i is none = differ (let e : ◌≡◌ {A = Option ℕ} None (Some i) = is in cc)
+contradicted kinds l k ss [] i is none = true≢false (let e : ◌≡◌ {A = Option ℕ} None (Some i) = is in cc)
 contradicted kinds l k ss (r ∷ rs) i is none =
     let found = position-Some (is_out_of_range kinds l k [] ss) (r ∷ rs) i r is in
-    differ (sym (list_any_at (misfits l k ss) (r ∷ rs) i r found.0 (out_misfits kinds l k ss (get_or (r ∷ rs) i r) found.1)) ∙ none)
+    true≢false (sym (list_any_at (misfits l k ss) (r ∷ rs) i r found.0 (out_misfits kinds l k ss (get_or (r ∷ rs) i r) found.1)) ∙ none)
 
 none_out : (kinds : RefKind → Bool) (l : Laid) (k : ℕ) (ss : List Seg) (rs : List Reference) → list_any (misfits l k ss) rs ≡ false → position (is_out_of_range kinds l k [] ss) rs ≡ None
 none_out kinds l k ss rs none = at (position (is_out_of_range kinds l k [] ss) rs) refl
