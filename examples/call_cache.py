@@ -46,6 +46,15 @@ def slide_pages(cache, data, slide):
     return bytes(data)
 
 
+def map_bytes(address, data, prot):
+    """Puts bytes at a free address, with a protection."""
+    where = libc.mmap(address, len(data), 7, mmap.MAP_PRIVATE | mmap.MAP_ANONYMOUS | MAP_FIXED_NOREPLACE, -1, 0)
+    if where != address:
+        sys.exit("the address is taken: try another slide")
+    ctypes.memmove(where, data, len(data))
+    libc.mprotect(ctypes.c_void_p(where), ctypes.c_size_t(len(data)), prot)
+
+
 def map_cache(cache, slide):
     table, count = struct.unpack_from("<2I", cache, 0x10)
     for number in range(count):
@@ -55,11 +64,7 @@ def map_cache(cache, slide):
         bytes_of = cache[file : file + size]
         if number == 1:
             bytes_of = slide_pages(cache, bytes_of, slide)
-        where = libc.mmap(address + slide, size, 7, mmap.MAP_PRIVATE | mmap.MAP_ANONYMOUS | MAP_FIXED_NOREPLACE, -1, 0)
-        if where != address + slide:
-            sys.exit("the address is taken: try another slide")
-        ctypes.memmove(where, bytes_of, size)
-        libc.mprotect(ctypes.c_void_p(where), ctypes.c_size_t(size), prot)
+        map_bytes(address + slide, bytes_of, prot)
 
 
 def main():

@@ -21,18 +21,23 @@ expect() {
 expect 0 build cache a.dylib
 expect 0 list cache
 expect 0 info cache
+expect 0 extract cache taken
 expect 0 build --jobs 2 -- -cache a.dylib
 expect 0 trial --jobs 2 5 2
 expect 1 build other err
 expect 1 info a.dylib
+expect 1 extract a.dylib taken
+expect 1 extract --image /z cache taken
 expect 2
 expect 2 --help
 expect 2 build cache
 expect 2 build a.dylib a.dylib
+expect 2 extract cache
 expect 2 trial 5
 expect 2 trial 5 4097
 expect 3 build cache missing.dylib
 expect 3 list missing
+expect 3 extract missing taken
 mkdir folder
 expect 4 build folder a.dylib
 if [ -w /dev/full ]; then

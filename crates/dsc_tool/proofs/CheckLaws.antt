@@ -9,13 +9,14 @@ use Rattle.dsc_base.specs.declared.fault.Break.{Break}
 use Rattle.dsc_base.specs.declared.fault.Finding.{Finding}
 use Rattle.dsc_base.specs.declared.fault.SetFault.{SetFault}
 use Rattle.dsc_base.specs.declared.fault.SetFault.TheVariants.{Broken as BrokenSet, Memory as SetMemory}
+use Rattle.cache_check.specs.Agreeing.{CorrespondsEverywhere}
 use Rattle.cache_check.specs.declared.verdict.Verdict.{Verdict}
-use Rattle.cache_check.specs.declared.verdict.Verdict.TheVariants.{Broken}
+use Rattle.cache_check.specs.declared.verdict.Verdict.TheVariants.{Agrees, Broken}
 use Rattle.cache_check.specs.Verdict.{verdict_of}
 use Rattle.load_model.specs.Phases.{contents, files_break}
 use Rattle.dsc_tool.specs.declared.status.Ending.TheVariants.{Differs}
 use Rattle.dsc_tool.specs.declared.stop.Stop.{Stop}
-use Rattle.dsc_tool.specs.declared.stop.Stop.TheVariants.{BadWords, Unread, Refused, Flawed, Memory}
+use Rattle.dsc_tool.specs.declared.stop.Stop.TheVariants.{BadWords, Unread, Refused, Flawed, NoImage, Memory}
 use Rattle.dsc_tool.specs.Causes.{IsRead, WorkCause, IsDue}
 use Rattle.dsc_tool.specs.Inputs.{AreRead, CacheCause, Contents, FilesCause, IsReadingStop}
 use Rattle.dsc_tool.specs.Made.{Made, check_halted, check_made, ending_of, verdict_made}
@@ -27,17 +28,18 @@ use Rattle.dsc_tool.proofs.InputLaws.{cause_since}
 
 -- ---- the files behind the cache
 
--- a verdict that is told of files that were read
+-- a verdict that is told of files that were read, to which a cache that agrees corresponds
 pub verdict_told : (files : Option Files) (names : List (List ℕ)) (cache : List ℕ) (inputs : List (Vec ℕ Global)) (images : ℕ) (v : Verdict) (line : List ℕ) (m : Made)
     → AreRead files names (contents inputs) → files_break (contents inputs) ≡ None → v ≡ verdict_of cache (contents inputs) → images ≡ length inputs → line ≡ verdict_line images v
-    → m ≡ record { ending = ending_of v; files = []; text = line } → IsChecked files names cache m
-verdict_told files names cache inputs images v line m read unbroken is count told made =
+    → m ≡ record { ending = ending_of v; files = []; text = line } → (v ≡ Agrees → CorrespondsEverywhere (contents inputs) cache) → IsChecked files names cache m
+verdict_told files names cache inputs images v line m read unbroken is count told made agrees =
     let many : images ≡ length (contents inputs) = count ∙ sym (length-map inputs (λ (f : Vec ℕ Global). f.items)) in
     record {
       bytes = contents inputs;
       read = read;
       unbroken = unbroken;
       is = made ∙ (ap (λ (t : List ℕ). record { ending = ending_of v; files = []; text = t }) told ∙ ap₂ (λ (n : ℕ) (w : Verdict). verdict_made n w) many is);
+      corresponds = λ same. agrees (is ∙ same);
     }
 
 -- files that break a rule stop it
@@ -62,6 +64,7 @@ files_since files old since new first names BadWords le never = never
 files_since files old since new first names (Unread input) le is = reading_since files old since new first names (Unread input) le is
 files_since files old since new first names (Refused b) le is = reading_since files old since new first names (Refused b) le is
 files_since files old since new first names (Flawed f) le never = never
+files_since files old since new first names NoImage le never = never
 files_since files old since new first names Memory le any = tt
 
 -- ---- the cache, and then the files
@@ -102,6 +105,7 @@ halt_told (Flawed g) f line m found told made images =
     let same : g ≡ f = sym (ap (finding_or f) found) in
     ap (λ (h : Finding). Ok (verdict_made images (Broken h))) same
     ∙ (ap (λ (t : List ℕ). Ok record { ending = Differs; files = []; text = t }) (sym told) ∙ ap (λ (n : Made). Ok n) (sym made))
+halt_told NoImage f line m found told made images = absurd cc
 halt_told Memory f line m found told made images = absurd cc
 
 abbrev stop_or : {X : Type 0} → Stop → Result X Stop → Stop
@@ -114,6 +118,7 @@ halt_stays BadWords s is images = (ap (stop_or s) is, refl)
 halt_stays (Unread input) s is images = (ap (stop_or s) is, refl)
 halt_stays (Refused b) s is images = (ap (stop_or s) is, refl)
 halt_stays (Flawed f) s is images = absurd cc
+halt_stays NoImage s is images = (ap (stop_or s) is, refl)
 halt_stays Memory s is images = (ap (stop_or s) is, refl)
 
 abbrev made_or : Made → Result Made Stop → Made
@@ -127,6 +132,7 @@ halted_works files old new name names BadWords m never is = absurd never
 halted_works files old new name names (Unread input) m cause is = absurd (let none = is 0 in cc)
 halted_works files old new name names (Refused b) m never is = absurd never
 halted_works files old new name names (Flawed f) m cause is = inr (f, cause, sym (ap (made_or m) (is (length names))))
+halted_works files old new name names NoImage m never is = absurd never
 halted_works files old new name names Memory m cause is = absurd (let none = is 0 in cc)
 
 pub halted_stops : (files : Option Files) (old new : ℕ) (name : List ℕ) (names : List (List ℕ)) (stop s : Stop) → CacheCause files old new name stop
@@ -154,7 +160,7 @@ check_product words files old new name names m spelled (inl (cache, there, withi
       read = check_inputs words files name names cache checked.bytes spelled there within checked.read;
       made = ap (check_made cache checked.bytes) checked.unbroken ∙ ap (λ (n : Made). Ok n) (sym checked.is);
     },
-    tt,
+    checked.corresponds,
   ),
 )
 check_product words files old new name names m spelled (inr (f, cause, is)) =
@@ -183,4 +189,8 @@ check_due words files old new name names (Flawed f) spelled (inl (cause, stays))
 check_due words files old new name names (Flawed f) spelled (inr (cache, there, within, inl never)) = absurd never
 check_due words files old new name names (Flawed f) spelled (inr (cache, there, within, inr (bytes, read, is))) =
     absurd (let rule = (by_rule cache bytes (files_break bytes) (Flawed f) is).1 in cc)
+check_due words files old new name names NoImage spelled (inl (never, stays)) = absurd never
+check_due words files old new name names NoImage spelled (inr (cache, there, within, inl never)) = absurd never
+check_due words files old new name names NoImage spelled (inr (cache, there, within, inr (bytes, read, is))) =
+    absurd (let rule = (by_rule cache bytes (files_break bytes) NoImage is).1 in cc)
 check_due words files old new name names Memory spelled cause = tt

@@ -8,9 +8,12 @@ use Rattle.dsc_base.specs.declared.fault.Finding.{Finding}
 use Rattle.cache_build.specs.Breaks.{set_break}
 use Rattle.cache_build.specs.Built.{built}
 use Rattle.cache_build.specs.declared.builder.Options.{Options}
+use Rattle.cache_check.specs.Agreeing.{CorrespondsEverywhere}
 use Rattle.cache_check.specs.declared.verdict.Verdict.{Verdict}
 use Rattle.cache_check.specs.declared.verdict.Verdict.TheVariants.{Agrees, Differs as Unlike, Broken}
 use Rattle.cache_check.specs.Verdict.{verdict_of}
+use Rattle.cache_check.specs.Views.{View, view_of}
+use Rattle.extractor.specs.Extracted.{AreExtracted}
 use Rattle.load_model.specs.Phases.{files_break}
 use Rattle.dsc_tool.specs.Options.{delta_bits}
 use Rattle.dsc_tool.specs.declared.status.Status.{Status}
@@ -20,14 +23,15 @@ use Rattle.dsc_tool.specs.declared.status.Ending.TheVariants.{Done as AllDone, D
 use Rattle.dsc_tool.specs.declared.stop.Stop.{Stop}
 use Rattle.dsc_tool.specs.declared.stop.Stop.TheVariants.{Flawed}
 use Rattle.dsc_tool.specs.Causes.{IsHalted, WorkCause}
+use Rattle.dsc_tool.specs.Extraction.{asked_files, cache_finding}
 use Rattle.dsc_tool.specs.Inputs.{CacheIsRead, Contents, InputsAreRead, ReadCause, inputs_of}
-use Rattle.dsc_tool.specs.Made.{Made, Promised, build_made, cache_made, check_made, ending_of, made, verdict_made}
-use Rattle.dsc_tool.specs.Ran.{IsDone, Ends, IsBuilt, HasVerdict, IsOversized, Says}
+use Rattle.dsc_tool.specs.Made.{Made, Promised, build_made, cache_made, check_made, ending_of, extract_made, files_made, images_made, made, verdict_made, vetted_made}
+use Rattle.dsc_tool.specs.Ran.{AreTaken, IsDone, Ends, IsBuilt, HasVerdict, IsOversized, Says}
 use Rattle.dsc_tool.specs.Statuses.{status_at}
 use Rattle.dsc_tool.specs.Stops.{cache_limit}
-use Rattle.dsc_tool.specs.Streams.{World, with_files}
-use Rattle.dsc_tool.specs.Words.{Order, build, check, command_of}
-use Rattle.dsc_tool.proofs.ToldLaws.{worked_told}
+use Rattle.dsc_tool.specs.Streams.{World, put_files, with_files}
+use Rattle.dsc_tool.specs.Words.{Order, build, check, extract, command_of}
+use Rattle.dsc_tool.proofs.ToldLaws.{put_told, worked_told}
 
 abbrev order_or : Order → Option Order → Order
 order_or d None = d
@@ -101,13 +105,21 @@ check_made_is cache bytes None m is = (refl, sym (ap (made_or m) is))
 check_made_is cache bytes (Some b) m is = absurd cc
 
 check_read : (files : Files) (name : List ℕ) (names : List (List ℕ)) (contents : Contents) (m : Made) → InputsAreRead (Some files) (inputs_of (check name names)) contents
-    → made (check name names) contents ≡ Ok m → (v : Verdict) × HasVerdict name names files v × (m.ending ≡ ending_of v)
-check_read files name names contents m read is =
+    → made (check name names) contents ≡ Ok m → Promised (check name names) contents → (v : Verdict) × HasVerdict name names files v × (m.ending ≡ ending_of v)
+check_read files name names contents m read is promised =
     let there = cache_there files name contents.cache read.cache in
     let found = check_made_is there.0 contents.files (files_break contents.files) m
     (ap (λ (c : Option (List ℕ)). check_made (unwrap_or c []) contents.files (files_break contents.files)) (sym there.1) ∙ is) in (
       verdict_of there.0 contents.files,
-      record { cache = there.0; bytes = contents.files; there = there.2; inputs = read.rest; unbroken = found.0; is = refl },
+      record {
+        cache = there.0;
+        bytes = contents.files;
+        there = there.2;
+        inputs = read.rest;
+        unbroken = found.0;
+        is = refl;
+        corresponds = subst (λ (c : Option (List ℕ)). verdict_of (unwrap_or c []) contents.files ≡ Agrees → CorrespondsEverywhere contents.files (unwrap_or c [])) there.1 promised;
+      },
       ap (λ (n : Made). n.ending) found.1,
     )
 
@@ -119,7 +131,7 @@ oversized files old new name names f (inr (cache, read, never)) = absurd never
 -- the verdict that was told, or that the cache is too large
 check_worked : (words : List (List ℕ)) (files : Files) (name : List ℕ) (names : List (List ℕ)) (old new : ℕ) (m : Made) → WorkCause words (Some files) old new (check name names) m
     → (IsOversized name files × (m.ending ≡ NotAlike)) ⊎ ((v : Verdict) × HasVerdict name names files v × (m.ending ≡ ending_of v))
-check_worked words files name names old new m (inl (contents, is, promised)) = inr (check_read files name names contents m is.read.inputs is.made)
+check_worked words files name names old new m (inl (contents, is, promised)) = inr (check_read files name names contents m is.read.inputs is.made promised)
 check_worked words files name names old new m (inr is) =
     inl (oversized files old new name names is.finding is.cause, sym (ap (λ (n : Made). n.ending) (ap (made_or m) is.made)))
 
@@ -161,3 +173,53 @@ check-says words files before after name names BadWords told spelled is = tt
 check-says words files before after name names ReadFault told spelled is = tt
 check-says words files before after name names WriteFault told spelled is = tt
 check-says words files before after name names Memory told spelled is = tt
+
+-- ---- an extraction
+
+images_are : (found : Option (List (List ℕ × List ℕ))) (m : Made) → images_made found ≡ Ok m → (taken : List (List ℕ × List ℕ)) × (found ≡ Some taken) × (m ≡ files_made taken)
+images_are None m is = absurd cc
+images_are (Some taken) m is = (taken, refl, sym (ap (made_or m) is))
+
+files_are : (prefix : List ℕ) (image : Option (List ℕ)) (v : View) (found : Option Finding) (m : Made) → vetted_made prefix image v found ≡ Ok m
+    → (found ≡ None) × ((taken : List (List ℕ × List ℕ)) × (asked_files prefix image v ≡ Some taken) × (m ≡ files_made taken))
+files_are prefix image v (Some f) m is = absurd cc
+files_are prefix image v None m is = (refl, images_are (asked_files prefix image v) m is)
+
+extract_done : (files : Files) (before after : World) (name prefix : List ℕ) (image : Option (List ℕ)) (contents : Contents) (m : Made) → before.files ≡ Some files
+    → InputsAreRead (Some files) (inputs_of (extract name prefix image)) contents → made (extract name prefix image) contents ≡ Ok m → Promised (extract name prefix image) contents
+    → after.files ≡ with_files before.files m.files → AreTaken name prefix image files after.files
+extract_done files before after name prefix image contents m told read is promised put =
+    let there = cache_there files name contents.cache read.cache in
+    let taken = files_are prefix image (view_of there.0) (cache_finding there.0) m
+    (ap (λ (c : Option (List ℕ)). extract_made prefix image (unwrap_or c [])) (sym there.1) ∙ is) in
+    record {
+      cache = there.0;
+      there = there.2;
+      unflawed = taken.0;
+      taken = taken.1.0;
+      are = taken.1.1;
+      extracted = subst (λ (c : Option (List ℕ)). AreExtracted (view_of (unwrap_or c []))) there.1 promised;
+      placed = put
+          ∙ (ap (λ (f : Option Files). with_files f m.files) told
+          ∙ (ap (λ (n : Made). with_files (Some files) n.files) taken.1.2 ∙ put_told files taken.1.0));
+    }
+
+extract_worked : (words : List (List ℕ)) (files : Files) (before after : World) (name prefix : List ℕ) (image : Option (List ℕ)) (old new : ℕ) (m : Made)
+    → before.files ≡ Some files → WorkCause words (Some files) old new (extract name prefix image) m → after.files ≡ with_files before.files m.files
+    → AreTaken name prefix image files after.files
+extract_worked words files before after name prefix image old new m told (inl (contents, is, promised)) put =
+    extract_done files before after name prefix image contents m told is.read.inputs is.made promised put
+extract_worked words files before after name prefix image old new m told (inr is) put = absurd (never_made (Flawed is.finding) m is.made)
+
+extract_told : (words : List (List ℕ)) (files : Files) (before after : World) (name prefix : List ℕ) (image : Option (List ℕ)) → before.files ≡ Some files
+    → command_of words ≡ Some (extract name prefix image) → IsDone words before after Done → AreTaken name prefix image files after.files
+extract_told words files before after name prefix image told spelled is =
+    let w = is.worked in
+    extract_worked words files before after name prefix image before.get_faults after.get_faults w.made told
+    (of_order words (Some files) before.get_faults after.get_faults w.order (extract name prefix image) w.made spelled (worked_told words files before after told w)) is.all.files
+
+-- after Done the files that are asked for of the told cache are at their names
+pub done-taken : (words : List (List ℕ)) (files : Files) (before after : World) (name prefix : List ℕ) (image : Option (List ℕ)) (status : Status) → before.files ≡ Some files
+    → command_of words ≡ Some (extract name prefix image) → status ≡ Done → Ends words before after status → AreTaken name prefix image files after.files
+done-taken words files before after name prefix image status told spelled done is =
+    extract_told words files before after name prefix image told spelled (subst (λ (s : Status). Ends words before after s) done is)

@@ -7,7 +7,7 @@ use Rattle.dsc_tool.specs.declared.status.Status.TheVariants.{Done, Refused, Bad
 use Rattle.dsc_tool.specs.declared.status.Ending.{Ending}
 use Rattle.dsc_tool.specs.declared.status.Ending.TheVariants.{Done as AllDone, Differs as NotAlike}
 use Rattle.dsc_tool.specs.declared.stop.Stop.{Stop}
-use Rattle.dsc_tool.specs.declared.stop.Stop.TheVariants.{BadWords as NoCommand, Unread, Refused as Broken, Flawed, Memory as NoMemory}
+use Rattle.dsc_tool.specs.declared.stop.Stop.TheVariants.{BadWords as NoCommand, Unread, Refused as Broken, Flawed, NoImage, Memory as NoMemory}
 use Rattle.dsc_tool.specs.Causes.{IsDue}
 use Rattle.dsc_tool.specs.Made.{Made}
 use Rattle.dsc_tool.specs.Ran.{IsWorked, IsStopped, Ends}
@@ -70,8 +70,9 @@ ends-delivered words before after files gets puts p status same kept count is we
 stopped : (words : List (List ℕ)) (before after : World) (stop : Stop) → IsStopped words before after stop → Ends words before after (status_of stop)
 stopped words before after NoCommand is = is
 stopped words before after (Unread input) is = (input, is)
-stopped words before after (Broken b) is = inl (b, is)
-stopped words before after (Flawed f) is = inr (f, is)
+stopped words before after (Broken b) is = inl (inl (b, is))
+stopped words before after (Flawed f) is = inl (inr (f, is))
+stopped words before after NoImage is = inr is
 stopped words before after NoMemory is = inl is
 
 ends_told : (words : List (List ℕ)) (before after : World) (stop : Stop) (status : Status) → IsDue words before.files before.get_faults after.get_faults stop

@@ -10,7 +10,7 @@ use Rattle.dsc_base.specs.Outside.{Files, HasFile, Rose}
 use Rattle.dsc_base.specs.declared.fault.Break.{Break}
 use Rattle.load_model.specs.Phases.{contents}
 use Rattle.dsc_tool.specs.declared.stop.Stop.{Stop}
-use Rattle.dsc_tool.specs.declared.stop.Stop.TheVariants.{BadWords, Unread, Refused, Flawed, Memory}
+use Rattle.dsc_tool.specs.declared.stop.Stop.TheVariants.{BadWords, Unread, Refused, Flawed, NoImage, Memory}
 use Rattle.dsc_tool.specs.Inputs.{AreRead, IsTooLarge, FileCause, IsReadingStop, FilesCause, total}
 use Rattle.dsc_tool.specs.Stops.{file_limit, input_limit}
 
@@ -52,6 +52,7 @@ cause_since files old since new first name file before (Unread i) le (is, inr ro
 cause_since files old since new first name file before (Refused b) le (inl large) = inl (too_large_since files old since new name file b le large)
 cause_since files old since new first name file before (Refused b) le (inr large) = inr large
 cause_since files old since new first name file before (Flawed f) le never = never
+cause_since files old since new first name file before NoImage le never = never
 cause_since files old since new first name file before Memory le any = any
 
 -- why one file isn't taken, as why the reading ends
@@ -61,6 +62,7 @@ reading_due files old new first names BadWords is = is.cause
 reading_due files old new first names (Unread input) is = is
 reading_due files old new first names (Refused b) is = is
 reading_due files old new first names (Flawed f) is = is.cause
+reading_due files old new first names NoImage is = is.cause
 reading_due files old new first names Memory is = tt
 
 pub stopped_at : (files : Option Files) (old since new first : ℕ) (names : List (List ℕ)) (i : ℕ) (name : List ℕ) (earlier : List (List ℕ)) (before : ℕ) (stop : Stop) → i < length names

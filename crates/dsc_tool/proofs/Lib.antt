@@ -2,6 +2,7 @@ pub mod Clap
 pub mod CheckLaws
 pub mod DoneLaws
 pub mod EndLaws
+pub mod ExtractLaws
 pub mod HexLaws
 pub mod InputLaws
 pub mod ListLaws

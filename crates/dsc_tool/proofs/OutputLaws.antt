@@ -5,13 +5,13 @@ use Rattle.dsc_base.specs.declared.fault.Break.{Break}
 use Rattle.dsc_base.specs.declared.fault.Finding.{Finding}
 use Rattle.dsc_tool.specs.declared.status.Status.TheVariants.{Refused as IsRefused}
 use Rattle.dsc_tool.specs.declared.stop.Stop.{Stop}
-use Rattle.dsc_tool.specs.declared.stop.Stop.TheVariants.{BadWords, Unread, Refused, Flawed, Memory}
+use Rattle.dsc_tool.specs.declared.stop.Stop.TheVariants.{BadWords, Unread, Refused, Flawed, NoImage, Memory}
 use Rattle.dsc_tool.specs.Causes.{IsRead, IsMade, IsHalted, WorkCause, RefusalCause, IsDue}
-use Rattle.dsc_tool.specs.Inputs.{Contents, inputs_of}
+use Rattle.dsc_tool.specs.Inputs.{Contents, Names, ReadCause, inputs_of}
 use Rattle.dsc_tool.specs.Made.{Made, made, halted}
 use Rattle.dsc_tool.specs.Output.{order_end, inputs_end, command_end, outcome_of, output}
 use Rattle.dsc_tool.specs.Statuses.{status_of}
-use Rattle.dsc_tool.specs.Words.{Order, build, check, list, info, trial, command_of}
+use Rattle.dsc_tool.specs.Words.{Order, build, check, extract, list, info, trial, command_of}
 use Rattle.dsc_tool.proofs.ReadingLaws.{inputs_read, inputs_unread, inputs_refused, inputs_flawed}
 
 -- an order whose inputs come to something
@@ -52,6 +52,11 @@ cause_ends : (words : List (List ℕ)) (files : Files) (order : Order) (stop : S
 cause_ends words files order stop spelled (inl (ends, stays)) = ended words files (Err stop) (order_ends words files order (Err stop) spelled ends ∙ stays)
 cause_ends words files order stop spelled (inr (contents, read, is)) = ended words files (Err stop) (read_ends words files order contents (Err stop) read is)
 
+-- that an image isn't there ends no reading
+never_unread : (files : Files) (old new : ℕ) (names : Names) → ReadCause (Some files) old new names NoImage → ⊥
+never_unread files old new names (inl (name, is, never)) = never
+never_unread files old new names (inr (cache, read, never)) = never
+
 -- an order that is refused
 pub output-refusal : (words : List (List ℕ)) (files : Files) (old new : ℕ) (order : Order) (stop : Stop) → command_of words ≡ Some order → status_of stop ≡ IsRefused
     → RefusalCause words (Some files) old new order stop → output words files ≡ outcome_of files (Err stop)
@@ -63,6 +68,8 @@ output-refusal words files old new order (Refused b) spelled is (inr made_so) = 
 output-refusal words files old new order (Flawed f) spelled is (inl (reading, stays)) =
     cause_ends words files order (Flawed f) spelled (inl (inputs_flawed files old new (inputs_of order) f reading, stays))
 output-refusal words files old new order (Flawed f) spelled is (inr made_so) = cause_ends words files order (Flawed f) spelled (inr made_so)
+output-refusal words files old new order NoImage spelled is (inl (never, stays)) = absurd (never_unread files old new (inputs_of order) never)
+output-refusal words files old new order NoImage spelled is (inr made_so) = cause_ends words files order NoImage spelled (inr made_so)
 output-refusal words files old new order Memory spelled is cause = absurd cc
 
 pub output-refused : (words : List (List ℕ)) (files : Files) (old new : ℕ) (b : Break) → IsDue words (Some files) old new (Refused b)
@@ -73,10 +80,14 @@ pub output-flawed : (words : List (List ℕ)) (files : Files) (old new : ℕ) (f
     → output words files ≡ outcome_of files (Err (Flawed f))
 output-flawed words files old new f (order, spelled, cause) = output-refusal words files old new order (Flawed f) spelled refl cause
 
+pub output-no_image : (words : List (List ℕ)) (files : Files) (old new : ℕ) → IsDue words (Some files) old new NoImage → output words files ≡ outcome_of files (Err NoImage)
+output-no_image words files old new (order, spelled, cause) = output-refusal words files old new order NoImage spelled refl cause
+
 -- an input that isn't read is no finding
 halted_unread : (order : Order) (input : ℕ) → halted order (Unread input) ≡ Err (Unread input)
 halted_unread (build options out names) input = refl
 halted_unread (check name names) input = refl
+halted_unread (extract name prefix image) input = refl
 halted_unread (list name) input = refl
 halted_unread (info name) input = refl
 halted_unread (trial options seed count) input = refl

@@ -8,7 +8,7 @@ use Rattle.cache_build.specs.Breaks.{set_break}
 use Rattle.cache_build.specs.declared.builder.Options.{Options}
 use Rattle.dsc_tool.specs.Options.{delta_bits}
 use Rattle.dsc_tool.specs.declared.stop.Stop.{Stop}
-use Rattle.dsc_tool.specs.declared.stop.Stop.TheVariants.{BadWords, Unread, Refused, Flawed, Memory}
+use Rattle.dsc_tool.specs.declared.stop.Stop.TheVariants.{BadWords, Unread, Refused, Flawed, NoImage, Memory}
 use Rattle.dsc_tool.specs.Causes.{IsRead, WorkCause, IsDue}
 use Rattle.dsc_tool.specs.Inputs.{AreRead, Contents, CacheCause, InputsAreRead, Names, inputs_of}
 use Rattle.dsc_tool.specs.Made.{Made, Promised, build_made, halted, head_made, made, text_made, told_of, trial_files, trial_made, trial_text}
@@ -59,14 +59,16 @@ build_due words files old new options out names (Refused b) spelled (inr (bytes,
     (build options out names, spelled, inr (only_files bytes, build_read words files options out names bytes spelled read, is))
 build_due words files old new options out names (Flawed f) spelled (inl never) = absurd never
 build_due words files old new options out names (Flawed f) spelled (inr (bytes, read, is)) = absurd (let rule = (by_rule out bytes (set_break delta_bits bytes) (Flawed f) is).1 in cc)
+build_due words files old new options out names NoImage spelled (inl never) = absurd never
+build_due words files old new options out names NoImage spelled (inr (bytes, read, is)) = absurd (let rule = (by_rule out bytes (set_break delta_bits bytes) NoImage is).1 in cc)
 build_due words files old new options out names Memory spelled cause = tt
 
 -- ---- a text on a cache
 
-abbrev only_cache : List ℕ → Contents
+abbrev pub only_cache : List ℕ → Contents
 only_cache bytes = record { cache = Some bytes; files = [] }
 
-no_files : (files : Option Files) → AreRead files [] []
+pub no_files : (files : Option Files) → AreRead files [] []
 no_files files = record { there = tt; within = λ k d inside. absurd (omega (arith, inside)); together = omega arith }
 
 module _ (order : Order) (text : Head → List ℕ) (name : List ℕ) (reads : inputs_of order ≡ record { cache = Some name; files = [] })
@@ -105,6 +107,8 @@ module _ (order : Order) (text : Head → List ℕ) (name : List ℕ) (reads : i
   head_due old new (Flawed g) (inl cause) = (order, spelled, inl (inl (at_cache old new (Flawed g) cause), stays (Flawed g)))
   head_due old new (Flawed g) (inr (bytes, there, within, (f, is, found))) =
       (order, spelled, inr (only_cache bytes, cache_read bytes there within, makes bytes ∙ (ap (told_of text bytes) found ∙ ap (λ (s : Stop). Err s) (sym is))))
+  head_due old new NoImage (inl never) = absurd never
+  head_due old new NoImage (inr (bytes, there, within, (f, is, found))) = absurd cc
   head_due old new Memory cause = tt
 
 -- ---- trial dylibs

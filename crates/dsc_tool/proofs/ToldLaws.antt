@@ -7,7 +7,7 @@ use Rattle.dsc_tool.specs.declared.status.Status.TheVariants.{Done, Refused, Bad
 use Rattle.dsc_tool.specs.declared.status.Ending.{Ending}
 use Rattle.dsc_tool.specs.declared.status.Ending.TheVariants.{Done as AllDone, Differs as NotAlike}
 use Rattle.dsc_tool.specs.declared.stop.Stop.{Stop}
-use Rattle.dsc_tool.specs.declared.stop.Stop.TheVariants.{BadWords as NoCommand, Unread, Refused as Broken, Flawed, Memory as NoMemory}
+use Rattle.dsc_tool.specs.declared.stop.Stop.TheVariants.{BadWords as NoCommand, Unread, Refused as Broken, Flawed, NoImage, Memory as NoMemory}
 use Rattle.dsc_tool.specs.Causes.{WorkCause, IsDue}
 use Rattle.dsc_tool.specs.Inputs.{inputs_of}
 use Rattle.dsc_tool.specs.Made.{Made}
@@ -17,7 +17,7 @@ use Rattle.dsc_tool.specs.Statuses.{status_at, status_of}
 use Rattle.dsc_tool.specs.Streams.{World, AnyRose, appended, put_files, with_files}
 use Rattle.dsc_tool.specs.Texts.{text_of, cannot_write_line, no_memory_line}
 use Rattle.dsc_tool.specs.Words.{command_of}
-use Rattle.dsc_tool.proofs.OutputLaws.{output-made, output-worked, output-bad_words, output-refused, output-flawed, output-refusal, output-unread}
+use Rattle.dsc_tool.proofs.OutputLaws.{output-made, output-worked, output-bad_words, output-refused, output-flawed, output-no_image, output-refusal, output-unread}
 use Rattle.dsc_tool.proofs.PrefixLaws.{appended-none, prefix-none, prefix-whole}
 use Rattle.dsc_tool.proofs.ReadingLaws.{unread_inside}
 
@@ -36,7 +36,7 @@ worked_ends : (words : List (List ℕ)) (files : Files) (before after : World) �
     → output words files ≡ outcome_of files (Ok is.made)
 worked_ends words files before after told is = output-worked words files before.get_faults after.get_faults is.order is.made (worked_told words files before after told is)
 
-put_told : (files : Files) (fs : List (List ℕ × List ℕ)) → with_files (Some files) fs ≡ Some (put_files files fs)
+pub put_told : (files : Files) (fs : List (List ℕ × List ℕ)) → with_files (Some files) fs ≡ Some (put_files files fs)
 put_told files [] = refl
 put_told files (f ∷ fs) = put_told (insert files f.0 f.1) fs
 
@@ -85,6 +85,7 @@ stop_text words files old new (Unread input) (order, spelled, reading) =
     inr (inl (order, input, spelled, unread_inside (Some files) old new (inputs_of order) input reading, refl))
 stop_text words files old new (Broken b) due = inl (sym (ap (λ (o : Outcome). o.err) (output-refused words files old new b due)))
 stop_text words files old new (Flawed f) due = inl (sym (ap (λ (o : Outcome). o.err) (output-flawed words files old new f due)))
+stop_text words files old new NoImage due = inl (sym (ap (λ (o : Outcome). o.err) (output-no_image words files old new due)))
 stop_text words files old new NoMemory due = inr (inr (inr refl))
 
 -- where memory was wanting, or something failed, nothing more is asked of the run
@@ -174,14 +175,18 @@ pub by_output : (words : List (List ℕ)) (files : Files) (before after : World)
     → IsByOutput words files before after status
 by_output words files before after Done told is = exact words files before after Done (done_told words files before after Done told is)
 by_output words files before after Differs told is = exact words files before after Differs (done_told words files before after Differs told is)
-by_output words files before after Refused told (inl (b, is)) =
+by_output words files before after Refused told (inl (inl (b, is))) =
     exact words files before after Refused
     (stopped_told words files before after (Broken b) told is
     (output-refused words files before.get_faults after.get_faults b (due_told words files before after (Broken b) told is.cause)))
-by_output words files before after Refused told (inr (f, is)) =
+by_output words files before after Refused told (inl (inr (f, is))) =
     exact words files before after Refused
     (stopped_told words files before after (Flawed f) told is
     (output-flawed words files before.get_faults after.get_faults f (due_told words files before after (Flawed f) told is.cause)))
+by_output words files before after Refused told (inr is) =
+    exact words files before after Refused
+    (stopped_told words files before after NoImage told is
+    (output-no_image words files before.get_faults after.get_faults (due_told words files before after NoImage told is.cause)))
 by_output words files before after BadWords told is =
     exact words files before after BadWords (stopped_told words files before after NoCommand told is (output-bad_words words files is.cause))
 by_output words files before after ReadFault told (input, is) = read_told words files before after input told is

@@ -3,7 +3,7 @@ use Rattle.std.specs.Prelude.{◌≡◌, ◌⊎◌, ℕ, List, Option, Some, Non
 use Rattle.dsc_base.specs.Outside.{Files}
 use Rattle.dsc_base.specs.declared.fault.Finding.{Finding}
 use Rattle.dsc_tool.specs.declared.stop.Stop.{Stop}
-use Rattle.dsc_tool.specs.declared.stop.Stop.TheVariants.{BadWords, Unread, Refused, Flawed, Memory}
+use Rattle.dsc_tool.specs.declared.stop.Stop.TheVariants.{BadWords, Unread, Refused, Flawed, NoImage, Memory}
 use Rattle.dsc_tool.specs.Inputs.{Contents, InputsAreRead, ReadCause, inputs_of}
 use Rattle.dsc_tool.specs.Made.{Made, Promised, made, halted}
 use Rattle.dsc_tool.specs.Words.{Order, command_of}
@@ -18,7 +18,7 @@ pub record IsMade (words : List (List ℕ)) (files : Option Files) (order : Orde
   pub read : IsRead words files order contents
   pub made : made order contents ≡ Ok m
 
--- why an order came to nothing: a limit while its inputs were read, or what their bytes come to: the first rule that files break, or the first finding in a cache
+-- why an order came to nothing: a limit while its inputs were read, or what their bytes come to: the first rule that files break, the first finding in a cache, or that the cache hasn't the image
 abbrev pub RefusalCause : List (List ℕ) → Option Files → ℕ → ℕ → Order → Stop → Type 0
 RefusalCause words files old new order stop =
     (ReadCause files old new (inputs_of order) stop × (halted order stop ≡ Err stop)) ⊎ ((contents : Contents) × IsRead words files order contents × (made order contents ≡ Err stop))
@@ -41,4 +41,5 @@ IsDue words files old new BadWords = command_of words ≡ None
 IsDue words files old new (Unread input) = (order : Order) × (command_of words ≡ Some order) × ReadCause files old new (inputs_of order) (Unread input)
 IsDue words files old new (Refused b) = (order : Order) × (command_of words ≡ Some order) × RefusalCause words files old new order (Refused b)
 IsDue words files old new (Flawed f) = (order : Order) × (command_of words ≡ Some order) × RefusalCause words files old new order (Flawed f)
+IsDue words files old new NoImage = (order : Order) × (command_of words ≡ Some order) × RefusalCause words files old new order NoImage
 IsDue words files old new Memory = Unit {0}

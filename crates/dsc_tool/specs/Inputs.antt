@@ -6,9 +6,9 @@ use Rattle.dsc_base.specs.Outside.{Files, HasFile, Rose, GetCause}
 use Rattle.dsc_base.specs.declared.fault.Break.{Break}
 use Rattle.dsc_base.specs.declared.outside.store.GetFault.TheVariants.{TooLarge}
 use Rattle.dsc_tool.specs.declared.stop.Stop.{Stop}
-use Rattle.dsc_tool.specs.declared.stop.Stop.TheVariants.{BadWords, Unread, Refused, Flawed, Memory}
+use Rattle.dsc_tool.specs.declared.stop.Stop.TheVariants.{BadWords, Unread, Refused, Flawed, NoImage, Memory}
 use Rattle.dsc_tool.specs.Stops.{file_limit, input_limit, cache_limit, too_large, input_too_large, cache_too_large}
-use Rattle.dsc_tool.specs.Words.{Order, build, check, list, info, trial}
+use Rattle.dsc_tool.specs.Words.{Order, build, check, extract, list, info, trial}
 
 -- what an order reads, by name: a cache, if it has one, and behind it files
 pub record Names : Type 0 where
@@ -18,6 +18,7 @@ pub record Names : Type 0 where
 abbrev pub inputs_of : Order → Names
 inputs_of (build options out names) = record { cache = None; files = names }
 inputs_of (check cache names) = record { cache = Some cache; files = names }
+inputs_of (extract cache prefix image) = record { cache = Some cache; files = [] }
 inputs_of (list cache) = record { cache = Some cache; files = [] }
 inputs_of (info cache) = record { cache = Some cache; files = [] }
 inputs_of (trial options seed count) = record { cache = None; files = [] }
@@ -70,6 +71,7 @@ CacheCause files old new name BadWords = ⊥
 CacheCause files old new name (Unread input) = (input ≡ 0) × (Lacks files name ⊎ Rose old new)
 CacheCause files old new name (Refused b) = ⊥
 CacheCause files old new name (Flawed f) = (f ≡ cache_too_large) × GetCause files old new name cache_limit TooLarge
+CacheCause files old new name NoImage = ⊥
 CacheCause files old new name Memory = Unit {0}
 
 -- the file of this name and number has too many bytes
@@ -87,6 +89,7 @@ FileCause files old new first name file before BadWords = ⊥
 FileCause files old new first name file before (Unread input) = (input ≡ first + file) × (Lacks files name ⊎ Rose old new)
 FileCause files old new first name file before (Refused b) = IsTooLarge files old new name file b ⊎ AreTooLarge files name file before b
 FileCause files old new first name file before (Flawed f) = ⊥
+FileCause files old new first name file before NoImage = ⊥
 FileCause files old new first name file before Memory = Unit {0}
 
 -- The reading ended so at one of the files, and those before it were read.
@@ -103,6 +106,7 @@ FilesCause files old new first names BadWords = ⊥
 FilesCause files old new first names (Unread input) = IsReadingStop files old new first names (Unread input)
 FilesCause files old new first names (Refused b) = IsReadingStop files old new first names (Refused b)
 FilesCause files old new first names (Flawed f) = ⊥
+FilesCause files old new first names NoImage = ⊥
 FilesCause files old new first names Memory = Unit {0}
 
 -- why not all inputs are read: the cache isn't taken, or it was and a file behind it isn't

@@ -1,5 +1,6 @@
 pub mod Causes
 pub mod ClapCommand
+pub mod Extraction
 pub mod Inputs
 pub mod Made
 pub mod Options

@@ -7,22 +7,26 @@ use Rattle.dsc_base.specs.declared.fault.Finding.{Finding}
 use Rattle.cache_build.specs.Always.{CorrespondsAlways}
 use Rattle.cache_build.specs.Breaks.{set_break}
 use Rattle.cache_build.specs.Built.{built}
+use Rattle.cache_check.specs.Agreeing.{CorrespondsEverywhere}
 use Rattle.cache_check.specs.declared.verdict.Verdict.{Verdict}
 use Rattle.cache_check.specs.declared.verdict.Verdict.TheVariants.{Agrees}
 use Rattle.cache_check.specs.Verdict.{verdict_of}
+use Rattle.cache_check.specs.Views.{view_of}
+use Rattle.extractor.specs.Extracted.{AreExtracted}
 use Rattle.load_model.specs.Phases.{files_break}
 use Rattle.dsc_tool.specs.Options.{delta_bits}
 use Rattle.dsc_tool.specs.declared.status.Status.{Status}
 use Rattle.dsc_tool.specs.declared.status.Status.TheVariants.{Done, Refused, BadWords, ReadFault, WriteFault, Memory, Differs}
 use Rattle.dsc_tool.specs.declared.stop.Stop.{Stop}
-use Rattle.dsc_tool.specs.declared.stop.Stop.TheVariants.{BadWords as NoCommand, Unread, Refused as Broken, Flawed, Memory as NoMemory}
+use Rattle.dsc_tool.specs.declared.stop.Stop.TheVariants.{BadWords as NoCommand, Unread, Refused as Broken, Flawed, NoImage, Memory as NoMemory}
 use Rattle.dsc_tool.specs.Causes.{IsMade, RefusalCause, WorkCause, IsDue}
+use Rattle.dsc_tool.specs.Extraction.{asked_files, cache_finding}
 use Rattle.dsc_tool.specs.Inputs.{AreRead, CacheIsRead, Contents, inputs_of, input_count}
 use Rattle.dsc_tool.specs.Made.{Made}
 use Rattle.dsc_tool.specs.Output.{Outcome, outcome_of, output}
 use Rattle.dsc_tool.specs.Statuses.{status_of}
 use Rattle.dsc_tool.specs.Steps.{IsDelivered, IsUndelivered, IsUnput}
-use Rattle.dsc_tool.specs.Streams.{World, AnyRose, appended}
+use Rattle.dsc_tool.specs.Streams.{World, AnyRose, appended, put_files}
 use Rattle.dsc_tool.specs.Stops.{cache_limit}
 use Rattle.dsc_tool.specs.Texts.{text_of, cannot_read_line, cannot_write_line, no_memory_line}
 use Rattle.dsc_tool.specs.Words.{Order, command_of}
@@ -68,7 +72,8 @@ pub record IsLeftOff (words : List (List ℕ)) (before after : World) (status : 
 abbrev pub Ends : List (List ℕ) → World → World → Status → Type 0
 Ends words before after Done = IsDone words before after Done
 Ends words before after Differs = IsDone words before after Differs
-Ends words before after Refused = ((b : Break) × IsStopped words before after (Broken b)) ⊎ ((f : Finding) × IsStopped words before after (Flawed f))
+Ends words before after Refused =
+    (((b : Break) × IsStopped words before after (Broken b)) ⊎ ((f : Finding) × IsStopped words before after (Flawed f))) ⊎ IsStopped words before after NoImage
 Ends words before after BadWords = IsStopped words before after NoCommand
 Ends words before after ReadFault = (input : ℕ) × IsStopped words before after (Unread input)
 Ends words before after WriteFault = (IsUntold words before after ⊎ IsCutShort words before after) ⊎ IsLeftOff words before after WriteFault
@@ -133,7 +138,7 @@ pub record IsBuilt (out : List ℕ) (names : List (List ℕ)) (files : Files) (a
   pub corresponds : CorrespondsAlways bytes cache
   pub placed : after ≡ Some (insert files out cache)
 
--- The inputs of these names are there and within the limits, the files among them break no rule before they are laid out, and this is the verdict on the cache and them.
+-- The inputs of these names are there and within the limits, the files among them break no rule before they are laid out, and this is the verdict on the cache and them; where they agree, the cache corresponds to them.
 pub record HasVerdict (name : List ℕ) (names : List (List ℕ)) (files : Files) (v : Verdict) : Type 0 where
   pub cache : List ℕ
   pub bytes : List (List ℕ)
@@ -141,6 +146,7 @@ pub record HasVerdict (name : List ℕ) (names : List (List ℕ)) (files : Files
   pub inputs : AreRead (Some files) names bytes
   pub unbroken : files_break bytes ≡ None
   pub is : v ≡ verdict_of cache bytes
+  pub corresponds : v ≡ Agrees → CorrespondsEverywhere bytes cache
 
 -- the cache of this name has more bytes than one may have that is read
 abbrev pub IsOversized : List ℕ → Files → Type 0
@@ -155,3 +161,13 @@ Says name names files BadWords = Unit {0}
 Says name names files ReadFault = Unit {0}
 Says name names files WriteFault = Unit {0}
 Says name names files Memory = Unit {0}
+
+-- The cache of this name is there and within its limit, has no finding and has the images that are asked for. Their files, in which all is as in the cache, are at the prefix followed by their paths; nothing else has changed.
+pub record AreTaken (name prefix : List ℕ) (image : Option (List ℕ)) (files : Files) (after : Option Files) : Type 0 where
+  pub cache : List ℕ
+  pub there : CacheIsRead (Some files) (Some name) (Some cache)
+  pub unflawed : cache_finding cache ≡ None
+  pub taken : List (List ℕ × List ℕ)
+  pub are : asked_files prefix image (view_of cache) ≡ Some taken
+  pub extracted : AreExtracted (view_of cache)
+  pub placed : after ≡ Some (put_files files taken)

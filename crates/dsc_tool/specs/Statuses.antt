@@ -5,7 +5,7 @@ use Rattle.dsc_tool.specs.declared.status.Status.TheVariants.{Done, Refused, Bad
 use Rattle.dsc_tool.specs.declared.status.Ending.{Ending}
 use Rattle.dsc_tool.specs.declared.status.Ending.TheVariants.{Done as AllDone, Differs as NotAlike}
 use Rattle.dsc_tool.specs.declared.stop.Stop.{Stop}
-use Rattle.dsc_tool.specs.declared.stop.Stop.TheVariants.{BadWords as NoCommand, Unread, Refused as Broken, Flawed, Memory as NoMemory}
+use Rattle.dsc_tool.specs.declared.stop.Stop.TheVariants.{BadWords as NoCommand, Unread, Refused as Broken, Flawed, NoImage, Memory as NoMemory}
 
 abbrev pub code_of : Status → ℕ
 code_of Done = 0
@@ -27,4 +27,5 @@ status_of NoCommand = BadWords
 status_of (Unread input) = ReadFault
 status_of (Broken b) = Refused
 status_of (Flawed f) = Refused
+status_of NoImage = Refused
 status_of NoMemory = Memory

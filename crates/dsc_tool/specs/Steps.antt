@@ -10,6 +10,9 @@ use Rattle.cache_build.specs.Always.{CorrespondsAlways}
 use Rattle.cache_build.specs.Breaks.{set_break}
 use Rattle.cache_build.specs.Built.{built}
 use Rattle.cache_build.specs.Sound.{IsSoundCache}
+use Rattle.cache_check.specs.Agreeing.{CorrespondsEverywhere}
+use Rattle.cache_check.specs.Views.{View, view_finding, view_of}
+use Rattle.extractor.specs.Extracted.{AreExtracted}
 use Rattle.dsc_tool.specs.Options.{delta_bits}
 use Rattle.dsc_base.specs.declared.outside.store.PutFault.{PutFault}
 use Rattle.dsc_base.specs.declared.outside.store.PutFault.TheVariants.{Failed, Memory as PutMemory}
@@ -18,16 +21,16 @@ use Rattle.dsc_tool.specs.declared.product.NewFile.{NewFile}
 use Rattle.dsc_tool.specs.declared.status.Status.{Status}
 use Rattle.dsc_tool.specs.declared.status.Status.TheVariants.{Done, Refused, BadWords, ReadFault, WriteFault, Memory, Differs}
 use Rattle.dsc_tool.specs.declared.stop.Stop.{Stop}
-use Rattle.dsc_tool.specs.declared.stop.Stop.TheVariants.{BadWords as NoCommand, Unread, Refused as Broken, Flawed, Memory as NoMemory}
+use Rattle.dsc_tool.specs.declared.stop.Stop.TheVariants.{BadWords as NoCommand, Unread, Refused as Broken, Flawed, NoImage, Memory as NoMemory}
 use Rattle.dsc_tool.specs.Causes.{WorkCause}
 use Rattle.dsc_tool.specs.Inputs.{AreRead, CacheCause, FilesCause}
-use Rattle.dsc_tool.specs.Made.{Made, build_made, check_made, check_halted, verdict_made, cache_made, text_made, trial_files, trial_text}
+use Rattle.dsc_tool.specs.Made.{Made, build_made, check_made, check_halted, extract_made, verdict_made, cache_made, text_made, trial_files, trial_text}
 use Rattle.dsc_tool.specs.Statuses.{status_at, status_of}
 use Rattle.dsc_tool.specs.Stops.{cache_limit}
 use Rattle.dsc_tool.specs.Streams.{World, appended, with_files}
 use Rattle.dsc_tool.specs.Texts.{text_of, no_memory_line, cannot_write_line}
 use Rattle.dsc_tool.specs.Words.{Order}
-use Rattle.cache_check.specs.declared.verdict.Verdict.TheVariants.{Broken as IsBroken}
+use Rattle.cache_check.specs.declared.verdict.Verdict.TheVariants.{Agrees, Broken as IsBroken}
 use Rattle.cache_check.specs.Verdict.{verdict_of}
 use Rattle.load_model.specs.Phases.{files_break}
 
@@ -57,12 +60,13 @@ abbrev pub BuildStop : Option Files → ℕ → ℕ → List ℕ → List (List 
 BuildStop files old new out names stop =
     FilesCause files old new 0 names stop ⊎ ((bytes : List (List ℕ)) × AreRead files names bytes × (build_made out bytes (set_break delta_bits bytes) ≡ Err stop))
 
--- files of these names were read, and break no rule before they are laid out; the verdict on a cache of these bytes and them is told
+-- files of these names were read, and break no rule before they are laid out; the verdict on a cache of these bytes and them is told, and where they agree the cache corresponds to them
 pub record IsChecked (files : Option Files) (names : List (List ℕ)) (cache : List ℕ) (m : Made) : Type 0 where
   pub bytes : List (List ℕ)
   pub read : AreRead files names bytes
   pub unbroken : files_break bytes ≡ None
   pub is : m ≡ verdict_made (length bytes) (verdict_of cache bytes)
+  pub corresponds : verdict_of cache bytes ≡ Agrees → CorrespondsEverywhere bytes cache
 
 -- files of these names weren't read behind the cache, or break a rule
 abbrev pub FilesStop : Option Files → ℕ → ℕ → List (List ℕ) → List ℕ → Stop → Type 0
@@ -81,6 +85,7 @@ found_in NoCommand = Err NoCommand
 found_in (Unread input) = Err (Unread input)
 found_in (Broken b) = Err (Broken b)
 found_in (Flawed f) = Ok f
+found_in NoImage = Err NoImage
 found_in NoMemory = Err NoMemory
 
 -- a cache of this name wasn't read, or it was and the files behind it weren't or break a rule
@@ -101,11 +106,35 @@ pub record HasHead (files : Option Files) (name : List ℕ) (h : Head) : Type 0 
 abbrev pub TextWorks : (Head → List ℕ) → Option Files → List ℕ → Made → Type 0
 TextWorks text files name m = (h : Head) × HasHead files name h × (m ≡ text_made (text h))
 
--- a cache of this name wasn't read, or has a finding in its head
-abbrev pub HeadStop : Option Files → ℕ → ℕ → List ℕ → Stop → Type 0
-HeadStop files old new name stop =
+-- a cache of this name wasn't read, or this finds something in it
+abbrev pub FlawStop : (List ℕ → Option Finding) → Option Files → ℕ → ℕ → List ℕ → Stop → Type 0
+FlawStop finding_of files old new name stop =
     CacheCause files old new name stop
-    ⊎ ((bytes : List ℕ) × HasFile files name bytes × (length bytes ≤ cache_limit) × ((f : Finding) × (stop ≡ Flawed f) × (head_finding bytes ≡ Some f)))
+    ⊎ ((bytes : List ℕ) × HasFile files name bytes × (length bytes ≤ cache_limit) × ((f : Finding) × (stop ≡ Flawed f) × (finding_of bytes ≡ Some f)))
+
+abbrev pub HeadStop : Option Files → ℕ → ℕ → List ℕ → Stop → Type 0
+HeadStop files old new name stop = FlawStop head_finding files old new name stop
+
+-- a cache of this name was read whole, and nothing is wrong with it but for what its images may have
+pub record HasView (files : Option Files) (name : List ℕ) (v : View) : Type 0 where
+  pub bytes : List ℕ
+  pub there : HasFile files name bytes
+  pub within : length bytes ≤ cache_limit
+  pub sound : view_finding bytes ≡ None
+  pub is : v ≡ view_of bytes
+
+-- a cache of this name was read, and files of its images are made, in which all is as in the cache
+pub record ExtractWorks (files : Option Files) (name prefix : List ℕ) (image : Option (List ℕ)) (m : Made) : Type 0 where
+  pub cache : List ℕ
+  pub there : HasFile files name cache
+  pub within : length cache ≤ cache_limit
+  pub is : extract_made prefix image cache ≡ Ok m
+  pub extracted : AreExtracted (view_of cache)
+
+-- a cache of this name wasn't read, or has a finding, or not the image that is asked for
+abbrev pub ExtractStop : Option Files → ℕ → ℕ → List ℕ → List ℕ → Option (List ℕ) → Stop → Type 0
+ExtractStop files old new name prefix image stop =
+    CacheCause files old new name stop ⊎ ((cache : List ℕ) × HasFile files name cache × (length cache ≤ cache_limit) × (extract_made prefix image cache ≡ Err stop))
 
 -- the cache of trial dylibs, which break no rule
 pub record IsTrialCache (seed count : ℕ) (cache : List ℕ) : Type 0 where

@@ -11,7 +11,7 @@ use Rattle.dsc_base.specs.declared.fault.Span.{Span}
 use Rattle.cache_header.specs.declared.head.Mapping.{Mapping}
 use Rattle.cache_header.specs.Records.{Entry, Head}
 use Rattle.dsc_tool.specs.declared.stop.Stop.{Stop}
-use Rattle.dsc_tool.specs.declared.stop.Stop.TheVariants.{BadWords, Unread, Refused, Flawed, Memory}
+use Rattle.dsc_tool.specs.declared.stop.Stop.TheVariants.{BadWords, Unread, Refused, Flawed, NoImage, Memory}
 
 abbrev pub line_feed : List ℕ
 line_feed = 10 ∷ []
@@ -25,6 +25,10 @@ hex n = digits 16 false n
 -- so many images were built to a cache of this span
 unfoldable pub built_line : ℕ → ℕ → List ℕ
 built_line images span = codes "built " ++ (decimal images ++ (codes " images, span 0x" ++ (hex span ++ line_feed)))
+
+-- so many images were extracted
+unfoldable pub extracted_line : ℕ → List ℕ
+extracted_line images = codes "extracted " ++ (decimal images ++ (codes " images" ++ line_feed))
 
 -- `list`: where each image is, and its path
 unfoldable pub image_line : Entry → List ℕ
@@ -71,8 +75,8 @@ trial_line images words span bytes_sum =
 -- the commands that there are
 unfoldable pub usage_text : List ℕ
 usage_text =
-    codes "usage: dsc build [--jobs N] OUT IN..." ++ (line_feed ++ (codes "       dsc check CACHE IN..." ++ (line_feed ++ (codes "       dsc list CACHE"
-    ++ (line_feed ++ (codes "       dsc info CACHE" ++ (line_feed ++ (codes "       dsc trial [--jobs N] SEED COUNT" ++ line_feed))))))))
+    codes "usage: dsc build [--jobs N] OUT IN..." ++ (line_feed ++ (codes "       dsc check CACHE IN..." ++ (line_feed ++ (codes "       dsc extract [--image PATH] CACHE PREFIX"
+    ++ (line_feed ++ (codes "       dsc list CACHE" ++ (line_feed ++ (codes "       dsc info CACHE" ++ (line_feed ++ (codes "       dsc trial [--jobs N] SEED COUNT" ++ line_feed))))))))))
 
 unfoldable pub refused_line : Break → List ℕ
 refused_line b =
@@ -87,6 +91,9 @@ flawed_line f =
 unfoldable pub cannot_read_line : ℕ → List ℕ
 cannot_read_line input = codes "dsc: cannot read input " ++ (decimal input ++ line_feed)
 
+unfoldable pub no_image_line : List ℕ
+no_image_line = codes "dsc: no such image" ++ line_feed
+
 unfoldable pub cannot_write_line : List ℕ
 cannot_write_line = codes "dsc: cannot write" ++ line_feed
 
@@ -99,4 +106,5 @@ text_of BadWords = usage_text
 text_of (Unread input) = cannot_read_line input
 text_of (Refused b) = refused_line b
 text_of (Flawed f) = flawed_line f
+text_of NoImage = no_image_line
 text_of Memory = no_memory_line

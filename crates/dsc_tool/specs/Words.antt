@@ -5,17 +5,18 @@ use Rattle.std.specs.Cmp.Lexicographic.{pointwise}
 use Rattle.cache_build.specs.declared.builder.Options.{Options}
 use Rattle.dsc_tool.specs.Options.{delta_bits}
 use Rattle.dsc_tool.specs.declared.command.Command.{Command}
-use Rattle.dsc_tool.specs.declared.command.Command.TheVariants.{Build, Check, List as ListImages, Info, Trial}
+use Rattle.dsc_tool.specs.declared.command.Command.TheVariants.{Build, Check, Extract, List as ListImages, Info, Trial}
 use Rattle.dsc_tool.specs.declared.command.WordsFault.{WordsFault}
 use Rattle.dsc_tool.specs.declared.command.WordsFault.TheVariants.{BadWords, Memory}
 use Rattle.dsc_tool.specs.WordNumbers.{most_inputs, jobs_of, seed_of, count_of}
 use Rattle.dsc_tool.specs.WordParts.{Parts, parts}
 
 -- what is asked for: that a cache is built as the options say and put at a name, from inputs in their order; that a cache is checked against files, in their order;
--- that the images of a cache are listed; that the head of a cache is told; that a cache of so many trial dylibs is built as the options say, from a seed
+-- that the images of a cache, or the one with a path, are made files at a prefix; that the images of a cache are listed; that the head of a cache is told; that a cache of so many trial dylibs is built as the options say, from a seed
 pub data Order : Type 0 where
   build : Options → List ℕ → List (List ℕ) → Order
   check : List ℕ → List (List ℕ) → Order
+  extract : List ℕ → List ℕ → Option (List ℕ) → Order
   list : List ℕ → Order
   info : List ℕ → Order
   trial : Options → ℕ → ℕ → Order
@@ -49,6 +50,14 @@ check_of (cache ∷ names) = if are_few names then Some (check cache names) else
 abbrev pub check_order : Parts → Option Order
 check_order p = check_of p.plain
 
+abbrev pub extract_with : Option (List ℕ) → List (List ℕ) → Option Order
+extract_with image (cache ∷ prefix ∷ []) = Some (extract cache prefix image)
+extract_with image _ = None
+
+-- `extract [--image PATH] CACHE PREFIX`, without its first word
+abbrev pub extract_order : Parts → Option Order
+extract_order p = extract_with p.value p.plain
+
 -- the one plain word
 abbrev pub only_word : List (List ℕ) → Option (List ℕ)
 only_word (word ∷ []) = Some word
@@ -78,9 +87,10 @@ command_of [] = None
 command_of (word ∷ rest) =
     if is_word word (codes "build") then option_and_then build_order (parts (Some (codes "jobs")) false rest)
     else (if is_word word (codes "check") then option_and_then check_order (parts None false rest)
+    else (if is_word word (codes "extract") then option_and_then extract_order (parts (Some (codes "image")) false rest)
     else (if is_word word (codes "list") then option_map list (option_and_then cache_word (parts None false rest))
     else (if is_word word (codes "info") then option_map info (option_and_then cache_word (parts None false rest))
-    else (if is_word word (codes "trial") then option_and_then trial_order (parts (Some (codes "jobs")) false rest) else None))))
+    else (if is_word word (codes "trial") then option_and_then trial_order (parts (Some (codes "jobs")) false rest) else None)))))
 
 -- ---- a command of the program
 
@@ -88,6 +98,7 @@ command_of (word ∷ rest) =
 abbrev pub order_of : Command → Order
 order_of (Build options out inputs) = build options out inputs.items
 order_of (Check cache inputs) = check cache inputs.items
+order_of (Extract cache prefix image) = extract cache prefix image
 order_of (ListImages cache) = list cache
 order_of (Info cache) = info cache
 order_of (Trial options seed count) = trial options seed count
@@ -111,6 +122,7 @@ pub record IsTrial (options : Options) (count : ℕ) : Type 0 where
 abbrev pub IsWithin : Command → Type 0
 IsWithin (Build options out inputs) = IsBuild options inputs.items
 IsWithin (Check cache inputs) = AreFew inputs.items
+IsWithin (Extract cache prefix image) = Unit {0}
 IsWithin (ListImages cache) = Unit {0}
 IsWithin (Info cache) = Unit {0}
 IsWithin (Trial options seed count) = IsTrial options count

@@ -1,7 +1,7 @@
 // The words of the command line, and the command that they spell.
-ghost use Rattle.std.specs.Prelude.{◌≡◌, IfOk, IfErr, Some, None, map, option_and_then, string_bytes, codes, false};
+ghost use Rattle.std.specs.Prelude.{◌≡◌, IfOk, IfErr, Some, None, map, option_and_then, option_map, string_bytes, codes, false};
 ghost use Rattle.dsc_tool.specs.WordParts.{parts};
-ghost use Rattle.dsc_tool.specs.Words.{command_of, order_of, build_order, with_jobs, check_order, cache_word, trial_order, are_few, are_inputs, IsWithin, IsWordsFault};
+ghost use Rattle.dsc_tool.specs.Words.{command_of, order_of, build_order, with_jobs, check_order, extract_order, cache_word, trial_order, are_few, are_inputs, IsWithin, IsWordsFault};
 ghost use Rattle.dsc_tool.specs.declared.command.WordsFault.TheVariants as faults;
 
 use crate::number::{MOST_INPUTS, count_of, jobs_of, seed_of};
@@ -23,6 +23,13 @@ pub enum Command {
     Check {
         cache: Text,
         inputs: Vec<Text>,
+    },
+    /// Makes files of the images of a cache, or of the one with a path, and puts each at the prefix followed by
+    /// its path.
+    Extract {
+        cache: Text,
+        prefix: Text,
+        image: Option<Text>,
     },
     /// Lists the images of a cache.
     List {
@@ -57,6 +64,7 @@ const DELTA_BITS: u32 = 16;
 /// * `build [--jobs N] OUT IN...`, with N from 1 to 64, of one or two decimal digits, and 1 to 4,096 inputs,
 ///   none of which is OUT;
 /// * `check CACHE IN...`, with 1 to 4,096 inputs;
+/// * `extract [--image PATH] CACHE PREFIX`;
 /// * `list CACHE`;
 /// * `info CACHE`;
 /// * `trial [--jobs N] SEED COUNT`, with SEED below 2^64, of 1 to 20 decimal digits, and COUNT from 1 to 4,096, of
@@ -79,6 +87,8 @@ pub fn read_words(alloc: Global, words: &[String]) -> Result<Command, WordsFault
         read_build(alloc, rest)
     } else if name == "check" {
         read_check(alloc, rest)
+    } else if name == "extract" {
+        read_extract(alloc, rest)
     } else if name == "list" {
         let cache = read_cache_name(alloc, rest)?;
         Ok(Command::List { cache })
@@ -133,6 +143,26 @@ fn read_check(alloc: Global, words: &[String]) -> Result<Command, WordsFault>
     let cache = Text::from_str(alloc, cache)?;
     let inputs = copy_names(alloc, inputs)?;
     Ok(Command::Check { cache, inputs })
+}
+
+// The extraction that the words behind its name ask for.
+fn read_extract(alloc: Global, words: &[String]) -> Result<Command, WordsFault>
+    ensures spelled { IfOk result (λ c. option_and_then extract_order (parts (Some (codes "image")) false (map string_bytes words.now)) ≡ Some (order_of c)) }
+    ensures within { IfOk result IsWithin }
+    ensures cause { IfErr result (IsWordsFault (option_and_then extract_order (parts (Some (codes "image")) false (map string_bytes words.now)))) }
+{
+    let split = split_words(alloc, Some("image"), words)?;
+    let [cache, prefix] = split.plain.as_slice() else {
+        return Err(WordsFault::BadWords);
+    };
+    let cache = Text::from_str(alloc, cache)?;
+    let prefix = Text::from_str(alloc, prefix)?;
+    let image = copy_value(alloc, split.value)?;
+    Ok(Command::Extract {
+        cache,
+        prefix,
+        image,
+    })
 }
 
 // The trial that the words behind its name ask for.
@@ -195,6 +225,15 @@ fn are_few(names: &[&str]) -> bool
     ensures { result ≡ are_few (map (λ name. name.now) names.now) }
 {
     !names.is_empty() && names.len() <= MOST_INPUTS
+}
+
+fn copy_value(alloc: Global, value: Option<&str>) -> Result<Option<Text>, NoMemory>
+    ensures { IfOk result (λ copy. copy ≡ option_map (λ text. text.now) value.entry) }
+{
+    match value {
+        Some(text) => Ok(Some(Text::from_str(alloc, text)?)),
+        None => Ok(None),
+    }
 }
 
 fn copy_names(alloc: Global, names: &[&str]) -> Result<Vec<Text>, NoMemory>

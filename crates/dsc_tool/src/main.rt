@@ -8,6 +8,7 @@ ghost use Rattle.dsc_tool.specs.Statuses.{code_of};
 
 mod cache_text;
 mod command;
+mod extraction;
 mod hex;
 mod inputs;
 mod number;

@@ -10,6 +10,7 @@ ghost use Rattle.dsc_tool.specs.declared.stop.Stop.TheVariants as stops;
 
 use crate::cache_text::{info_text, list_text};
 use crate::command::{Command, read_words};
+use crate::extraction::prepare_extract;
 use crate::inputs::{read_cache, read_files};
 use crate::status::Ending;
 use crate::stop::Stop;
@@ -60,6 +61,11 @@ pub(crate) fn prepare<R: Threads + Sync, S: Store, G: Gate + Sync>(
             inputs,
         } => prepare_build(rt, alloc, &options, out, &inputs, store, gate),
         Command::Check { cache, inputs } => prepare_check(alloc, cache.as_str(), &inputs, store),
+        Command::Extract {
+            cache,
+            prefix,
+            image,
+        } => prepare_extract(alloc, cache.as_str(), prefix.as_str(), image, store),
         Command::List { cache } => prepare_list(alloc, cache.as_str(), store),
         Command::Info { cache } => prepare_info(alloc, cache.as_str(), store),
         Command::Trial {
@@ -143,7 +149,9 @@ fn found_in(stop: Stop) -> Result<Finding, Stop>
 {
     match stop {
         Stop::Flawed(found) => Ok(found),
-        Stop::BadWords | Stop::Unread(_) | Stop::Refused(_) | Stop::Memory => Err(stop),
+        Stop::BadWords | Stop::Unread(_) | Stop::Refused(_) | Stop::NoImage | Stop::Memory => {
+            Err(stop)
+        }
     }
 }
 

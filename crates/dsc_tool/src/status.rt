@@ -7,7 +7,7 @@ ghost use Rattle.dsc_tool.specs.Statuses.{code_of, status_at};
 pub enum Status {
     /// Everything was done.
     Done,
-    /// The inputs break a rule.
+    /// The inputs break a rule, or the cache has a finding or lacks the image.
     Refused,
     /// The words are no command.
     BadWords,

@@ -27,6 +27,8 @@ pub enum Stop {
     Refused(Break),
     /// The cache has this finding.
     Flawed(Finding),
+    /// The cache has no image with the path.
+    NoImage,
     /// Memory ran out.
     Memory,
 }

@@ -1,6 +1,7 @@
 mod asking;
 mod checks;
 mod dylibs;
+mod extractions;
 mod heads;
 mod pointers;
 mod refusals;

@@ -1,6 +1,6 @@
 // What a run prints, but for what it tells of a cache.
 ghost use Rattle.std.specs.Prelude.{◌≡◌, IfOk, string_bytes};
-ghost use Rattle.dsc_tool.specs.Texts.{usage_text, cannot_write_line, no_memory_line, cannot_read_line, refused_line, flawed_line, built_line, trial_line};
+ghost use Rattle.dsc_tool.specs.Texts.{usage_text, cannot_write_line, no_memory_line, no_image_line, cannot_read_line, refused_line, flawed_line, built_line, extracted_line, trial_line};
 
 use dsc_base::{Break, Finding, NoMemory};
 use std::alloc::Global;
@@ -10,7 +10,15 @@ use std::alloc::Global;
 pub(crate) fn usage_text() -> &'static str
     ensures { result.now ≡ usage_text }
 {
-    "usage: dsc build [--jobs N] OUT IN...\n       dsc check CACHE IN...\n       dsc list CACHE\n       dsc info CACHE\n       dsc trial [--jobs N] SEED COUNT\n"
+    "usage: dsc build [--jobs N] OUT IN...\n       dsc check CACHE IN...\n       dsc extract [--image PATH] CACHE PREFIX\n       dsc list CACHE\n       dsc info CACHE\n       dsc trial [--jobs N] SEED COUNT\n"
+}
+
+/// The cache has no image with the path.
+#[tactic(auto, unfolding(crate::specs::Texts::no_image_line))]
+pub(crate) fn no_image_text() -> &'static str
+    ensures { result.now ≡ no_image_line }
+{
+    "dsc: no such image\n"
 }
 
 /// A file or standard output was not written.
@@ -65,6 +73,14 @@ pub(crate) fn built_text(alloc: Global, images: u32, span: u64) -> Result<String
     ensures { IfOk result (λ text. string_bytes text ≡ built_line images span) }
 {
     Ok(format!(in alloc; "built {images} images, span 0x{span:x}\n")?)
+}
+
+/// So many images were extracted.
+#[tactic(auto, unfolding(crate::specs::Texts::extracted_line))]
+pub(crate) fn extracted_text(alloc: Global, images: usize) -> Result<String, NoMemory>
+    ensures { IfOk result (λ text. string_bytes text ≡ extracted_line images) }
+{
+    Ok(format!(in alloc; "extracted {images} images\n")?)
 }
 
 /// So many trial dylibs were built to a cache of this span, in bytes, in which so many words slide, and whose

@@ -45,6 +45,7 @@ fn each_input_is_asked_for_once_in_order(rt: HostRuntime) -> Result<(), Fail> {
         ("build c B D A B", Status::ReadFault, " <B <D"),
         ("check A B D A", Status::ReadFault, " <A <B <D"),
         ("check D A", Status::ReadFault, " <D"),
+        ("extract A out", Status::Refused, " <A"),
         ("list A", Status::Refused, " <A"),
         ("info D", Status::ReadFault, " <D"),
         ("build A A", Status::BadWords, ""),
@@ -56,7 +57,7 @@ fn each_input_is_asked_for_once_in_order(rt: HostRuntime) -> Result<(), Fail> {
             inner,
             notes: String::new(alloc),
         };
-        let answer = run_line(&rt, alloc, line, &mut store, 99, 250)?;
+        let answer = run_line(&rt, alloc, line, &mut store, 99, 300)?;
         assert_eq!(rt; answer.status, status, "{line}");
         assert_eq!(rt; store.notes.as_str(), notes, "{line}");
     }

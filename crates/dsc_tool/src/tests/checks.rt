@@ -10,12 +10,12 @@ use std::thread::Threads;
 
 // What is set in the cache of A, the words behind, how the run ends and what it prints.
 #[derive(Drop, Clone, Copy)]
-struct Checked<'a> {
-    cache: Patches<'a>,
-    line: &'a str,
-    status: Status,
-    out: &'a str,
-    err: &'a str,
+pub(super) struct Checked<'a> {
+    pub(super) cache: Patches<'a>,
+    pub(super) line: &'a str,
+    pub(super) status: Status,
+    pub(super) out: &'a str,
+    pub(super) err: &'a str,
 }
 
 const CHECKED: [Checked<'static>; 8] = [
@@ -95,7 +95,7 @@ fn with_cache<R: Threads + Sync>(
 }
 
 // A run of the row ends and prints as it says.
-fn is_checked<R: Threads + Sync + Abort>(
+pub(super) fn is_checked<R: Threads + Sync + Abort>(
     rt: &R,
     alloc: Global,
     row: &Checked<'_>,

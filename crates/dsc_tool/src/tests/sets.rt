@@ -13,7 +13,7 @@ pub(super) type Patches<'a> = &'a [(usize, &'a [u8])];
 // ---- commands, in the dylib with data: the first dependency, streams of LC_DYLD_INFO_ONLY, and split-segment
 // information
 
-const NEEDS_B: Patches<'static> = &[
+pub(super) const NEEDS_B: Patches<'static> = &[
     (0x10, b"\x07"),
     (0x14, b"\x08\x02"),
     (0x200, b"\x0C\0\0\0\x28\0\0\0\x18\0\0\0"),
@@ -35,7 +35,7 @@ const NEEDS_Z_WEAKLY: Patches<'static> = &[
 ];
 
 // `_f` at 0x500, `_d` at 0x1010, and `_k` with the value 0x1234.
-const EXPORTS_F: Patches<'static> = &[
+pub(super) const EXPORTS_F: Patches<'static> = &[
     (0x1E8, b"\x10\x20\0\0\x0B\0\0\0"),
     (0x2010, b"\0\x01_f\0\x06\x03\0\x80\x0A\0"),
 ];
@@ -51,7 +51,7 @@ const EXPORTS_K: Patches<'static> = &[
 ];
 
 // A lazy pointer at 0x10 of the data, bound to `_f` of the first dependency; the same, and a second one at 0x18.
-const BINDS_F: Patches<'static> = &[
+pub(super) const BINDS_F: Patches<'static> = &[
     (0x1E0, b"\x10\x20\0\0\x09\0\0\0"),
     (0x1010, b"\x40\x04"),
     (0x2010, b"\x71\x10\x11\x40_f\0\x90\0"),

@@ -3,6 +3,7 @@ use super::sets::{Patches, has_bytes, set_bytes};
 use super::{is_refused, run_line};
 use crate::tests::dylibs::plain_dylib;
 use dsc_base::{MemStore, Store};
+use macho_image::{Form, read_image};
 use sample_dylibs::{system_dylib, usual_dylib};
 use std::alloc::Global;
 use std::test::Fail;
@@ -96,6 +97,12 @@ const USUAL: Patches<'static> = &[
     (0x5018, b"\x10\x60\0\x20\xFF\x7F\0\0"),
 ];
 
+// Where its file and that of the system are put.
+const USUAL_NAMES: [&str; 2] = [
+    "out/usr/lib/libusual.dylib",
+    "out/usr/lib/libSystem.B.dylib",
+];
+
 #[test]
 fn a_usual_dylib_is_built(rt: HostRuntime) -> Result<(), Fail> {
     let alloc = rt.alloc();
@@ -111,5 +118,15 @@ fn a_usual_dylib_is_built(rt: HostRuntime) -> Result<(), Fail> {
     has_bytes(&rt, &cache, USUAL);
     let answer = run_line(&rt, alloc, "check c U S", &mut store, 99, 99)?;
     assert_eq!(rt; answer.out.bytes(), b"agrees: 2 images\n".as_slice());
+    let answer = run_line(&rt, alloc, "extract c out", &mut store, 99, 99)?;
+    assert_eq!(rt; answer.out.bytes(), b"extracted 2 images\n".as_slice());
+    for name in USUAL_NAMES {
+        let file = store.get(alloc, name, 0x6000)?;
+        assert_eq!(rt;
+            read_image(alloc, &file, 0, Form::Standalone).is_ok(),
+            true,
+            "{name}"
+        );
+    }
     Ok(())
 }

@@ -6,7 +6,7 @@ use dsc_base::{MemStore, SoundStore};
 use std::test::Fail;
 
 const USAGE: &str =
-    "usage: dsc build [--jobs N] OUT IN...\n       dsc check CACHE IN...\n       dsc list CACHE\n       dsc info CACHE\n       dsc trial [--jobs N] SEED COUNT\n";
+    "usage: dsc build [--jobs N] OUT IN...\n       dsc check CACHE IN...\n       dsc extract [--image PATH] CACHE PREFIX\n       dsc list CACHE\n       dsc info CACHE\n       dsc trial [--jobs N] SEED COUNT\n";
 
 #[test]
 fn words_that_are_no_command_are_told(rt: HostRuntime) -> Result<(), Fail> {
@@ -36,6 +36,12 @@ fn words_that_are_no_command_are_told(rt: HostRuntime) -> Result<(), Fail> {
         "check",
         "check c",
         "check --jobs 1 c A",
+        "extract c",
+        "extract c out a",
+        "extract --jobs 1 c out",
+        "extract --image /a --image /a c out",
+        "extract --image -a c out",
+        "extract c out --image",
         "list",
         "list c d",
         "list --jobs 1 c",
@@ -52,7 +58,7 @@ fn words_that_are_no_command_are_told(rt: HostRuntime) -> Result<(), Fail> {
         "trial --jobs 65 5 1",
     ] {
         let mut store = SoundStore::new(alloc);
-        let answer = run_line(&rt, alloc, line, &mut store, 99, 250)?;
+        let answer = run_line(&rt, alloc, line, &mut store, 99, 300)?;
         assert_eq!(rt; answer.status, Status::BadWords, "{line}");
         assert_eq!(rt; answer.err.bytes(), USAGE.as_bytes(), "{line}");
         assert_eq!(rt; answer.out.bytes(), b"".as_slice(), "{line}");
@@ -76,6 +82,10 @@ fn words_that_are_a_command_are_read(rt: HostRuntime) -> Result<(), Fail> {
         "check c c",
         "check - A B",
         "check -- --help A",
+        "extract c out",
+        "extract --image /a c out",
+        "extract c --image=/a out",
+        "extract --image= -- c --image",
         "list -",
         "list -- --help",
         "info c",
@@ -103,7 +113,7 @@ fn up_to_4096_inputs_are_taken(rt: HostRuntime) -> Result<(), Fail> {
     let answer = run_line(&rt, alloc, line.as_str(), &mut store, 99, 99)?;
     assert_eq!(rt; answer.status, Status::ReadFault);
     line.push_str(" A")?;
-    let answer = run_line(&rt, alloc, line.as_str(), &mut store, 99, 250)?;
+    let answer = run_line(&rt, alloc, line.as_str(), &mut store, 99, 300)?;
     assert_eq!(rt; answer.status, Status::BadWords);
     Ok(())
 }
@@ -121,7 +131,7 @@ fn names_are_taken_as_they_are(rt: HostRuntime) -> Result<(), Fail> {
     let empty = run_words(&rt, alloc, &["build", "--", "-c", ""], &mut store, 99, 99)?;
     assert_eq!(rt; empty.status, Status::Done);
     assert_eq!(rt; store.file("-c").is_some(), true);
-    let none = run_words(&rt, alloc, &["build", "", ""], &mut store, 99, 250)?;
+    let none = run_words(&rt, alloc, &["build", "", ""], &mut store, 99, 300)?;
     assert_eq!(rt; none.status, Status::BadWords);
     Ok(())
 }

@@ -1,11 +1,12 @@
--- An order is a build, a check, a text on the head of a cache, or a trial.
+-- An order is a build, a check, an extraction, a text on the head of a cache, or a trial.
 use Rattle.std.proofs.Common.{◌≡◌, ◌∙◌, ℕ, List, Some, refl, ap, ap₂, sym, map, string_bytes, Global}
 use Rattle.std.proofs.lemmas.Result.{IfErr-weaker, IfOk-weaker}
 use Rattle.dsc_tool.specs.declared.command.Command.{Command}
 use Rattle.dsc_tool.specs.Steps.{made_of}
 use Rattle.dsc_tool.specs.Texts.{list_text, info_text}
-use Rattle.dsc_tool.specs.Words.{build, check, list, info, trial, command_of, order_of}
+use Rattle.dsc_tool.specs.Words.{build, check, extract, list, info, trial, command_of, order_of}
 use Rattle.dsc_tool.proofs.CheckLaws.{check_product, check_due}
+use Rattle.dsc_tool.proofs.ExtractLaws.{extract_product, extract_due}
 use Rattle.dsc_tool.proofs.ProductLaws.{build_product, build_due, text_product, head_due, trial_product, trial_due}
 use Rattle.dsc_tool.proofs.product.prepare.Goals as goal
 
@@ -35,6 +36,22 @@ returns-in-Check-clause-stop g c =
     ∙ ap₂ (λ (n : List ℕ) (l : List (List ℕ)). Some (check n l)) (sym c.as_str.ensures) (sym c.deref-in-Check.ensures.value)) in
     IfErr-weaker c.prepare_check.result _ _ (λ stop cause. check_due (map (string_bytes {Z = Global}) c.args.words.now) (g.S.Store.files c.args.store.now) (g.S.Store.get_faults c.args.store.now)
     (g.S.Store.get_faults c.prepare_check.new.store) c.as_str.result.now c.deref-in-Check.result.now stop spelled cause) c.prepare_check.ensures.stop
+
+pub returns-in-Extract-clause-product : goal.returns-in-Extract-clause-product
+returns-in-Extract-clause-product g c =
+    let spelled : command_of (map (string_bytes {Z = Global}) c.args.words.now) ≡ Some (extract c.as_str-in-Extract.result.now c.as_str-in-Extract-2.result.now c.in-Extract.image) =
+    c.in_ok-options.ensures.spelled ∙ (ap (λ (x : Command). Some (order_of x)) c.in-Extract.is
+    ∙ ap₂ (λ (n p : List ℕ). Some (extract n p c.in-Extract.image)) (sym c.as_str-in-Extract.ensures) (sym c.as_str-in-Extract-2.ensures)) in
+    IfOk-weaker c.prepare_extract.result _ _ (λ p works. extract_product _ _ _ _ c.as_str-in-Extract.result.now c.as_str-in-Extract-2.result.now c.in-Extract.image (made_of p) spelled works)
+    c.prepare_extract.ensures.product
+
+pub returns-in-Extract-clause-stop : goal.returns-in-Extract-clause-stop
+returns-in-Extract-clause-stop g c =
+    let spelled : command_of (map (string_bytes {Z = Global}) c.args.words.now) ≡ Some (extract c.as_str-in-Extract.result.now c.as_str-in-Extract-2.result.now c.in-Extract.image) =
+    c.in_ok-options.ensures.spelled ∙ (ap (λ (x : Command). Some (order_of x)) c.in-Extract.is
+    ∙ ap₂ (λ (n p : List ℕ). Some (extract n p c.in-Extract.image)) (sym c.as_str-in-Extract.ensures) (sym c.as_str-in-Extract-2.ensures)) in
+    IfErr-weaker c.prepare_extract.result _ _ (λ stop cause. extract_due (map (string_bytes {Z = Global}) c.args.words.now) (g.S.Store.files c.args.store.now) (g.S.Store.get_faults c.args.store.now)
+    (g.S.Store.get_faults c.prepare_extract.new.store) c.as_str-in-Extract.result.now c.as_str-in-Extract-2.result.now c.in-Extract.image stop spelled cause) c.prepare_extract.ensures.stop
 
 pub returns-in-List-clause-product : goal.returns-in-List-clause-product
 returns-in-List-clause-product g c =

@@ -1,6 +1,6 @@
 -- A run is its preparation, and then the putting of its product or the telling of its stop.
 use Rattle.std.proofs.Common.{refl}
-use Rattle.dsc_tool.proofs.DoneLaws.{check-says, done-built}
+use Rattle.dsc_tool.proofs.DoneLaws.{check-says, done-built, done-taken}
 use Rattle.dsc_tool.proofs.EndLaws.{ends-delivered, ends-stopped}
 use Rattle.dsc_tool.proofs.ToldLaws.{ran}
 use Rattle.dsc_tool.proofs.run.run.Goals as goal
@@ -22,3 +22,6 @@ returns-in-Ok-clause-checked g c = λ files name inputs told spelled. check-says
 
 pub returns-in-Err-clause-checked : goal.returns-in-Err-clause-checked
 returns-in-Err-clause-checked g c = λ files name inputs told spelled. check-says _ files _ _ name inputs _ told spelled (returns-in-Err-clause-ran g c).ends
+
+pub returns-in-Ok-clause-extracted : goal.returns-in-Ok-clause-extracted
+returns-in-Ok-clause-extracted g c = λ files name prefix image told spelled done. done-taken _ files _ _ name prefix image _ told spelled done (returns-in-Ok-clause-ran g c).ends
