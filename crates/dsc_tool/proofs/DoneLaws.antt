@@ -13,7 +13,7 @@ use Rattle.cache_check.specs.declared.verdict.Verdict.{Verdict}
 use Rattle.cache_check.specs.declared.verdict.Verdict.TheVariants.{Agrees, Differs as Unlike, Broken}
 use Rattle.cache_check.specs.Verdict.{verdict_of}
 use Rattle.cache_check.specs.Views.{View, view_of}
-use Rattle.extractor.specs.Extracted.{AreExtracted}
+use Rattle.extractor.specs.Loads.{IsExtraction}
 use Rattle.load_model.specs.Phases.{files_break}
 use Rattle.dsc_tool.specs.Options.{delta_bits}
 use Rattle.dsc_tool.specs.declared.status.Status.{Status}
@@ -198,7 +198,7 @@ extract_done files before after name prefix image contents m told read is promis
       unflawed = taken.0;
       taken = taken.1.0;
       are = taken.1.1;
-      extracted = subst (λ (c : Option (List ℕ)). AreExtracted (view_of (unwrap_or c []))) there.1 promised;
+      extracted = subst (λ (c : Option (List ℕ)). IsExtraction (unwrap_or c [])) there.1 promised;
       placed = put
           ∙ (ap (λ (f : Option Files). with_files f m.files) told
           ∙ (ap (λ (n : Made). with_files (Some files) n.files) taken.1.2 ∙ put_told files taken.1.0));

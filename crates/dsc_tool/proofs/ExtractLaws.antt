@@ -22,7 +22,6 @@ use Rattle.cache_header.specs.Reading.{head_read, image_count, image_path}
 use Rattle.cache_header.specs.Records.{Entry}
 use Rattle.cache_check.proofs.CachedLaws.{neither}
 use Rattle.cache_check.specs.Views.{View, view_finding, view_of}
-use Rattle.extractor.specs.Extracted.{AreExtracted}
 use Rattle.extractor.specs.Vetting.{vet_finding}
 use Rattle.dsc_tool.specs.declared.product.NewFile.{NewFile}
 use Rattle.dsc_tool.specs.declared.product.Product.{Product}
@@ -32,7 +31,7 @@ use Rattle.dsc_tool.specs.Causes.{IsRead, WorkCause, IsDue}
 use Rattle.dsc_tool.specs.Extraction.{ArePlain, asked_files, cache_finding, image_file, path_in}
 use Rattle.dsc_tool.specs.Inputs.{Contents}
 use Rattle.dsc_tool.specs.Made.{Made, extract_made, images_made, vetted_made}
-use Rattle.dsc_tool.specs.Steps.{ExtractStop, ExtractWorks, FlawStop, HasView, made_of, new_files}
+use Rattle.dsc_tool.specs.Steps.{ExtractStop, ExtractWorks, FlawStop, HasView, PromisesOf, made_of, new_files}
 use Rattle.dsc_tool.specs.Stops.{cache_limit}
 use Rattle.dsc_tool.specs.Words.{Order, extract, command_of}
 use Rattle.dsc_tool.proofs.ProductLaws.{no_files, only_cache}
@@ -120,18 +119,18 @@ one_image prefix v image path word bytes found k files is same again finds there
 -- ---- what is made
 
 pub extract_works : (files : Option Files) (name prefix : List ℕ) (image : Option (List ℕ)) (v : View) (m : Made) → HasView files name v
-    → vetted_made prefix image v (vet_finding v) ≡ Ok m → AreExtracted v → ExtractWorks files name prefix image m
+    → vetted_made prefix image v (vet_finding v) ≡ Ok m → PromisesOf v → ExtractWorks files name prefix image m
 extract_works files name prefix image v m has made extracted = record {
   cache = has.bytes;
   there = has.there;
   within = has.within;
   is = ap (vetted_made prefix image (view_of has.bytes)) (vetted_finding has.bytes has.sound)
       ∙ (ap (λ (w : View). vetted_made prefix image w (vet_finding w)) (sym has.is) ∙ made);
-  extracted = subst (λ (w : View). AreExtracted w) has.is extracted;
+  extracted = extracted has.bytes has.small has.sound (sym has.is);
 }
 
 pub extract_if : (made : Result Product Stop) (files : Option Files) (name prefix : List ℕ) (image : Option (List ℕ)) (v : View) → HasView files name v
-    → IfOk made (λ p. vetted_made prefix image v (vet_finding v) ≡ Ok (made_of p)) → IfOk made (λ p. AreExtracted v) → IfOk made (λ p. ExtractWorks files name prefix image (made_of p))
+    → IfOk made (λ p. vetted_made prefix image v (vet_finding v) ≡ Ok (made_of p)) → IfOk made (λ p. PromisesOf v) → IfOk made (λ p. ExtractWorks files name prefix image (made_of p))
 extract_if (Ok p) files name prefix image v has is extracted = extract_works files name prefix image v (made_of p) has is extracted
 extract_if (Err stop) files name prefix image v has is extracted = tt
 

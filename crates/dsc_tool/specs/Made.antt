@@ -15,7 +15,7 @@ use Rattle.cache_check.specs.declared.verdict.Verdict.TheVariants.{Agrees, Diffe
 use Rattle.cache_check.specs.Verdict.{verdict_of}
 use Rattle.cache_check.specs.Views.{View, view_of}
 use Rattle.dsc_gen.specs.Files.{generated}
-use Rattle.extractor.specs.Extracted.{AreExtracted}
+use Rattle.extractor.specs.Loads.{IsExtraction}
 use Rattle.load_model.specs.Phases.{files_break}
 use Rattle.dsc_tool.specs.Options.{delta_bits}
 use Rattle.dsc_tool.specs.Extraction.{asked_files, cache_finding}
@@ -133,7 +133,7 @@ halted (trial options seed count) stop = Err stop
 abbrev pub Promised : Order → Contents → Type 0
 Promised (build options out names) c = CorrespondsAlways c.files (built delta_bits c.files)
 Promised (check name names) c = verdict_of (unwrap_or c.cache []) c.files ≡ Agrees → CorrespondsEverywhere c.files (unwrap_or c.cache [])
-Promised (extract name prefix image) c = AreExtracted (view_of (unwrap_or c.cache []))
+Promised (extract name prefix image) c = IsExtraction (unwrap_or c.cache [])
 Promised (list name) c = Unit {0}
 Promised (info name) c = Unit {0}
 Promised (trial options seed count) c = CorrespondsAlways (trial_files seed count) (built delta_bits (trial_files seed count))

@@ -12,7 +12,7 @@ use Rattle.cache_check.specs.declared.verdict.Verdict.{Verdict}
 use Rattle.cache_check.specs.declared.verdict.Verdict.TheVariants.{Agrees}
 use Rattle.cache_check.specs.Verdict.{verdict_of}
 use Rattle.cache_check.specs.Views.{view_of}
-use Rattle.extractor.specs.Extracted.{AreExtracted}
+use Rattle.extractor.specs.Loads.{IsExtraction}
 use Rattle.load_model.specs.Phases.{files_break}
 use Rattle.dsc_tool.specs.Options.{delta_bits}
 use Rattle.dsc_tool.specs.declared.status.Status.{Status}
@@ -169,5 +169,5 @@ pub record AreTaken (name prefix : List ℕ) (image : Option (List ℕ)) (files 
   pub unflawed : cache_finding cache ≡ None
   pub taken : List (List ℕ × List ℕ)
   pub are : asked_files prefix image (view_of cache) ≡ Some taken
-  pub extracted : AreExtracted (view_of cache)
+  pub extracted : IsExtraction cache
   pub placed : after ≡ Some (put_files files taken)

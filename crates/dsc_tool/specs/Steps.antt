@@ -1,5 +1,5 @@
 -- What the parts of a run leave to one another.
-use Rattle.std.specs.Prelude.{◌≡◌, ◌<◌, ◌≤◌, ◌⊎◌, ℕ, List, [], map, take, length, get_or, Option, Some, None, Result, Ok, Err}
+use Rattle.std.specs.Prelude.{◌≡◌, ◌<◌, ◌≤◌, ◌⊎◌, ℕ, List, [], map, take, length, get_or, All, Option, Some, None, Result, Ok, Err}
 use Rattle.dsc_base.specs.Outside.{Files, HasFile, Rose, AppendsPrefix, LeavesPrefix}
 use Rattle.dsc_base.specs.declared.fault.Break.{Break}
 use Rattle.dsc_base.specs.declared.fault.Finding.{Finding}
@@ -12,7 +12,7 @@ use Rattle.cache_build.specs.Built.{built}
 use Rattle.cache_build.specs.Sound.{IsSoundCache}
 use Rattle.cache_check.specs.Agreeing.{CorrespondsEverywhere}
 use Rattle.cache_check.specs.Views.{View, view_finding, view_of}
-use Rattle.extractor.specs.Extracted.{AreExtracted}
+use Rattle.extractor.specs.Loads.{IsExtraction}
 use Rattle.dsc_tool.specs.Options.{delta_bits}
 use Rattle.dsc_base.specs.declared.outside.store.PutFault.{PutFault}
 use Rattle.dsc_base.specs.declared.outside.store.PutFault.TheVariants.{Failed, Memory as PutMemory}
@@ -120,8 +120,13 @@ pub record HasView (files : Option Files) (name : List ℕ) (v : View) : Type 0 
   pub bytes : List ℕ
   pub there : HasFile files name bytes
   pub within : length bytes ≤ cache_limit
+  pub small : All (λ (b : ℕ). b < 256) bytes
   pub sound : view_finding bytes ≡ None
   pub is : v ≡ view_of bytes
+
+-- what is promised of the files of the images of each cache that a view is of
+abbrev pub PromisesOf : View → Type 0
+PromisesOf v = (cache : List ℕ) → All (λ (b : ℕ). b < 256) cache → view_finding cache ≡ None → view_of cache ≡ v → IsExtraction cache
 
 -- a cache of this name was read, and files of its images are made, in which all is as in the cache
 pub record ExtractWorks (files : Option Files) (name prefix : List ℕ) (image : Option (List ℕ)) (m : Made) : Type 0 where
@@ -129,7 +134,7 @@ pub record ExtractWorks (files : Option Files) (name prefix : List ℕ) (image :
   pub there : HasFile files name cache
   pub within : length cache ≤ cache_limit
   pub is : extract_made prefix image cache ≡ Ok m
-  pub extracted : AreExtracted (view_of cache)
+  pub extracted : IsExtraction cache
 
 -- a cache of this name wasn't read, or has a finding, or not the image that is asked for
 abbrev pub ExtractStop : Option Files → ℕ → ℕ → List ℕ → List ℕ → Option (List ℕ) → Stop → Type 0

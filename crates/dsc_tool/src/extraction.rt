@@ -1,13 +1,12 @@
 // The files that are made of the images of a cache.
-ghost use Rattle.std.specs.Prelude.{◌≡◌, ◌≤◌, ◌<◌, ◌+◌, ◌++◌, ◌⊎◌, Ok, Err, Some, None, true, IfOk, IfErr, length, map, slice_get};
+ghost use Rattle.std.specs.Prelude.{◌≡◌, ◌≤◌, ◌<◌, ◌+◌, All, ◌++◌, ◌⊎◌, Ok, Err, Some, None, true, IfOk, IfErr, length, map, slice_get};
 ghost use Rattle.std.specs.List.{range_with_len};
 ghost use Rattle.dsc_base.specs.Texts.{is_plain_text};
 ghost use Rattle.cache_check.specs.Views.{view_finding};
-ghost use Rattle.extractor.specs.Extracted.{AreExtracted};
 ghost use Rattle.extractor.specs.Vetting.{vet_finding};
 ghost use Rattle.dsc_tool.specs.Extraction as spec;
 ghost use Rattle.dsc_tool.specs.Made.{vetted_made};
-ghost use Rattle.dsc_tool.specs.Steps.{ExtractStop, ExtractWorks, FlawStop, HasView, made_of, new_files};
+ghost use Rattle.dsc_tool.specs.Steps.{ExtractStop, ExtractWorks, FlawStop, HasView, PromisesOf, made_of, new_files};
 ghost use Rattle.dsc_tool.specs.declared.stop.Stop.TheVariants as stops;
 
 use crate::inputs::read_cache;
@@ -39,6 +38,13 @@ pub(crate) fn prepare_extract<S: Store>(
     extract_from(alloc, &view, prefix, image)
 }
 
+// Does nothing: its contract tells what is true of each slice of bytes.
+fn are_bytes(bytes: &[u8])
+    ensures { All (λ b. b < 256) bytes.now }
+{
+    let _ = bytes;
+}
+
 // The cache of this name, read whole. Of its file nothing is kept but what the view keeps.
 fn read_view<S: Store>(alloc: Global, name: &str, store: &mut S) -> Result<CacheView, Stop>
     ensures view { IfOk result (HasView (S.files store.old) name.now) }
@@ -48,6 +54,7 @@ fn read_view<S: Store>(alloc: Global, name: &str, store: &mut S) -> Result<Cache
     ensures put_count { S.put_faults store.new ≡ S.put_faults store.old }
 {
     let cache = read_cache(alloc, store, name)?;
+    are_bytes(&cache);
     Ok(cache_check::read_cache(alloc, &cache)?)
 }
 
@@ -60,7 +67,7 @@ fn extract_from(
 ) -> Result<Product, Stop>
     requires { spec.ArePlain view.now.head.images }
     ensures product { IfOk result (λ p. vetted_made prefix.now image view.now (vet_finding view.now) ≡ Ok (made_of p)) }
-    ensures extracted { IfOk result (λ p. AreExtracted view.now) }
+    ensures extracted { IfOk result (λ p. PromisesOf view.now) }
     ensures stop { IfErr result (λ s. (s ≡ stops.Memory) ⊎ (vetted_made prefix.now image view.now (vet_finding view.now) ≡ Err s)) }
 {
     let vetted = vet(alloc, view)?;

@@ -1,5 +1,5 @@
 // A cache that was vetted whole.
-ghost use Rattle.std.specs.Prelude.{◌≡◌, None, position, IfOk};
+ghost use Rattle.std.specs.Prelude.{◌≡◌, ◌<◌, ℕ, List, All, None, position, IfOk};
 ghost use Rattle.dsc_base.specs.Refusals.{RefusesView};
 ghost use Rattle.macho_image.specs.Rules.{same_bytes};
 ghost use Rattle.cache_check.specs.Shape.{data_mapping};
@@ -154,22 +154,13 @@ impl<'a> Vetted<'a> {
 
     /// Does nothing; its contract tells what the files are that `extract` makes of the images: each is a dylib
     /// that breaks no rule of its shape and binds and exports what its image in the cache does; and together
-    /// their names lead where they do in the cache.
+    /// their names lead where they do in the cache. Of a cache that this view is of, it tells that these files,
+    /// loaded together, each at the same slide that the cache's header permits, have on each of their sections
+    /// the bytes of the cache mapped at that slide.
     pub fn promise(&self)
-        ensures { AreExtracted self.now.view }
+        ensures files { AreExtracted self.now.view }
+        ensures loads { (cache : List ℕ) → All (λ b. b < 256) cache → view_finding cache ≡ None → view_of cache ≡ self.now.view → IsExtraction cache }
     {
-        let _ = &self.free;
-    }
-
-    /// Does nothing; its contract tells the same of the files by the cache itself, which this view is of and in
-    /// which nothing is found. And loaded together, each at the same slide that the cache's header permits, they
-    /// have on each of their sections the bytes of the cache mapped at that slide.
-    pub fn promise_of(&self, cache: &[u8])
-        requires read { view_finding cache.now ≡ None }
-        requires view { view_of cache.now ≡ self.now.view }
-        ensures { IsExtraction cache.now }
-    {
-        are_bytes(cache);
         let _ = &self.free;
     }
 }
