@@ -25,7 +25,7 @@ fn push_addresses(out: &mut Vec<u64>, binds: &[Bind<'_>]) -> Result<(), Fault>
     Ok(())
 }
 
-// The addresses of the binds of two streams, ascending.
+/// The addresses of the binds of two streams, ascending.
 fn bound_addresses(
     alloc: Global,
     first: &[Bind<'_>],
@@ -42,7 +42,7 @@ fn bound_addresses(
     Ok(addresses)
 }
 
-// The addresses of rebases, ascending.
+/// The addresses of rebases, ascending.
 fn rebased_addresses(alloc: Global, rebases: &[Location]) -> Result<Vec<u64>, Fault>
     ensures moved { IfOk result (λ v. IsPermutation (addresses_of rebases.now) v.items) }
     ensures rises { IfOk result (λ v. IsNonDecreasingBy (λ x. x) v.items) }
@@ -62,7 +62,7 @@ fn is_above(address: u64, low: u64, gap: u64) -> bool
     address >= low && address - low >= gap
 }
 
-// From an index on, the first of ascending addresses that lies at least so far above another one.
+/// From an index on, the first of ascending addresses that lies at least so far above another one.
 fn first_above(addresses: &[u64], from: usize, low: u64, gap: u64) -> usize
     requires { from ≤ length addresses.now }
     ensures within { result ≤ length addresses.now }
@@ -77,8 +77,8 @@ fn first_above(addresses: &[u64], from: usize, low: u64, gap: u64) -> usize
     addresses.len()
 }
 
-// Of ascending addresses, the first at which a word has the start of another one in it, at least so far above
-// its own.
+/// Of ascending addresses, the first at which a word has the start of another one in it, at least so far above
+/// its own.
 fn first_below(lower: &[u64], upper: &[u64], gap: u64) -> Option<u64>
     requires lower { IsNonDecreasingBy (λ x. x) lower.now }
     requires upper { IsNonDecreasingBy (λ x. x) upper.now }
@@ -104,8 +104,8 @@ fn least(one: Option<u64>, other: Option<u64>) -> Option<u64>
     }
 }
 
-// The least address at which a rebase and a bind of either stream share a part, or a bind and a lazy bind share
-// anything. Each list ascends, and the last has the binds of both streams.
+/// The least address at which a rebase and a bind of either stream share a part, or a bind and a lazy bind share
+/// anything. Each list ascends, and the last has the binds of both streams.
 fn first_clash(rebased: &[u64], bound: &[u64], lazily: &[u64], all: &[u64]) -> Option<u64>
     requires rebased { IsNonDecreasingBy (λ x. x) rebased.now }
     requires bound { IsNonDecreasingBy (λ x. x) bound.now }

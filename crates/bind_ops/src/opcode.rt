@@ -17,7 +17,7 @@ const POINTER_TYPE: u8 = 1;
 /// `BIND_SYMBOL_FLAGS_WEAK_IMPORT` is the lowest bit of the flags.
 const FLAGS_BELOW_WEAK_IMPORT: u8 = 2;
 
-// The numbers of the opcodes, the high four bits of the `BIND_OPCODE_` constants.
+/// The numbers of the opcodes, the high four bits of the `BIND_OPCODE_` constants.
 const DONE: u8 = 0;
 
 const SET_DYLIB_ORDINAL_IMM: u8 = 1;
@@ -46,7 +46,7 @@ const DO_BIND_ULEB_TIMES_SKIPPING_ULEB: u8 = 12;
 
 const THREADED: u8 = 13;
 
-// The low four bits of the `BIND_SPECIAL_DYLIB_` numbers, which are 0 to -3.
+/// The low four bits of the `BIND_SPECIAL_DYLIB_` numbers, which are 0 to -3.
 const SELF: u8 = 0;
 
 const MAIN_EXECUTABLE: u8 = 0xF;
@@ -72,7 +72,7 @@ pub(crate) enum Effect<'a> {
     Records { count: u64, step: u64 },
 }
 
-// An operand and the place behind it.
+/// An operand and the place behind it.
 #[tactic(auto, unfolding(crate::specs::Opcodes::operand_at))]
 fn operand(stream: &[u8], at: usize) -> Result<(u64, usize), BindFault>
     requires { at ≤ length stream.now }
@@ -85,7 +85,7 @@ fn operand(stream: &[u8], at: usize) -> Result<(u64, usize), BindFault>
     }
 }
 
-// The same of one with a sign.
+/// The same of one with a sign.
 #[tactic(auto, unfolding(crate::specs::Opcodes::signed_operand_at))]
 fn signed_operand(stream: &[u8], at: usize) -> Result<(i64, usize), BindFault>
     requires { at ≤ length stream.now }
@@ -98,7 +98,7 @@ fn signed_operand(stream: &[u8], at: usize) -> Result<(i64, usize), BindFault>
     }
 }
 
-// The ordinal of a special number: only the image itself is accepted.
+/// The ordinal of a special number: only the image itself is accepted.
 fn special_ordinal(immediate: u8) -> Result<u64, BindFault>
     ensures { because result ≡ spec.special_ordinal immediate }
 {
@@ -111,7 +111,7 @@ fn special_ordinal(immediate: u8) -> Result<u64, BindFault>
     }
 }
 
-// So many words, each so many bytes behind the end of the one before it.
+/// So many words, each so many bytes behind the end of the one before it.
 fn records<'a>(count: u64, skip: u64) -> Effect<'a>
     ensures { result ≡ Effect.Records count (wrap (8 + skip)) }
 {
@@ -121,7 +121,7 @@ fn records<'a>(count: u64, skip: u64) -> Effect<'a>
     }
 }
 
-// What an opcode does that sets what words are bound to.
+/// What an opcode does that sets what words are bound to.
 #[tactic(auto, unfolding(crate::specs::Opcodes::target_with))]
 fn target_with<'a>(
     number: u8,
@@ -159,7 +159,7 @@ fn target_with<'a>(
     }
 }
 
-// What an opcode does that moves to the next word, or records words.
+/// What an opcode does that moves to the next word, or records words.
 #[tactic(auto, unfolding(crate::specs::Opcodes::place_with))]
 fn place_with<'a>(
     number: u8,
@@ -197,7 +197,7 @@ fn place_with<'a>(
     }
 }
 
-// What the opcode with a number and an immediate, whose operands begin at a place, does, and the place behind them.
+/// What the opcode with a number and an immediate, whose operands begin at a place, does, and the place behind them.
 #[tactic(auto, unfolding(crate::specs::Opcodes::opcode_with))]
 fn opcode_with<'a>(
     number: u8,

@@ -16,7 +16,7 @@ use dsc_base::{Fault, Site};
 use macho_image::{Image, Location, first_close};
 use std::alloc::Global;
 
-// Whether what an opcode does ends its stream.
+/// Whether what an opcode does ends its stream.
 fn ends(kind: StreamKind, effect: &Effect<'_>) -> bool
     ensures { result ≡ effect_ends kind effect.now }
 {
@@ -38,7 +38,7 @@ fn start<'a>() -> State<'a>
     }
 }
 
-// The binds in reading order.
+/// The binds in reading order.
 fn read_stream<'a>(
     alloc: Global,
     stream: &'a [u8],
@@ -65,7 +65,7 @@ fn read_stream<'a>(
     Ok(out)
 }
 
-// The places of binds, in address order.
+/// The places of binds, in address order.
 fn sorted_places(alloc: Global, binds: &[Bind<'_>]) -> Result<Vec<Location>, Fault>
     ensures moved { IfOk result (λ v. IsPermutation (spec.places_of binds.now) v.items) }
     ensures rises { IfOk result (λ v. IsNonDecreasingBy (λ l. l.address) v.items) }

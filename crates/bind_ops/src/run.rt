@@ -25,7 +25,7 @@ pub(crate) struct State<'a> {
     pub addend: i64,
 }
 
-// The bind at an offset, as things are set, or why a record there is refused, after so many of the stream.
+/// The bind at an offset, as things are set, or why a record there is refused, after so many of the stream.
 #[tactic(auto, unfolding(crate::specs::Binds::record_fault))]
 fn bind_at<'a>(
     image: &Image<'_>,
@@ -66,9 +66,9 @@ pub(crate) fn broken(kind: StreamKind, fault: BindFault, at: usize) -> Fault
     })
 }
 
-// So many records, each a step behind the one before it, and the offset a step behind the last. It ends at
-// the first one that is refused, so that what it takes is bounded by the records that are accepted,
-// whatever the count.
+/// So many records, each a step behind the one before it, and the offset a step behind the last. It ends at
+/// the first one that is refused, so that what it takes is bounded by the records that are accepted,
+/// whatever the count.
 fn record<'a>(
     image: &Image<'_>,
     kind: StreamKind,

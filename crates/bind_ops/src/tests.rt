@@ -8,16 +8,16 @@ use std::alloc::Global;
 use std::process::Abort;
 use std::test::Fail;
 
-// A bind of the second segment and its section, the second of all: its address, ordinal, name, whether it is
-// weak, and its addend.
+/// A bind of the second segment and its section, the second of all: its address, ordinal, name, whether it is
+/// weak, and its addend.
 type Wanted = (u64, u64, &'static [u8], bool, i64);
 
-// What is wanted of a stream: its binds, or the rule that it breaks and where.
+/// What is wanted of a stream: its binds, or the rule that it breaks and where.
 type Answer = Result<&'static [Wanted], (u16, u64)>;
 
 const EDITS: [&[(usize, u32)]; 3] = [&[], &WIDE, &SHORT];
 
-// A stream, which edits its dylib has, and what is wanted of it.
+/// A stream, which edits its dylib has, and what is wanted of it.
 type Case = (StreamKind, &'static [u8], usize, Answer);
 
 const CASES: [Case; 48] = [
@@ -219,7 +219,7 @@ const CASES: [Case; 48] = [
     ),
 ];
 
-// Addresses of rebases, binds and lazy binds, and the one at which they clash.
+/// Addresses of rebases, binds and lazy binds, and the one at which they clash.
 type Words = (&'static [u64], &'static [u64], &'static [u64], Option<u64>);
 
 const CLASHES: [Words; 11] = [
@@ -254,7 +254,7 @@ const CLASHES: [Words; 11] = [
     ),
 ];
 
-// The dylib with data without its rebases, and with these edits.
+/// The dylib with data without its rebases, and with these edits.
 fn file_with(alloc: Global, edits: &[(usize, u32)]) -> Result<Vec<u8>, Fail> {
     let mut file = data_dylib(alloc, 0x3040)?;
     put_numbers(&mut file, &[(0x1c8, 0), (0x1cc, 0)]);
@@ -270,7 +270,7 @@ fn place(address: u64) -> Location {
     }
 }
 
-// A type that workers may share and hand back.
+/// A type that workers may share and hand back.
 fn is_shared<T: Send + Sync>(_value: &T) {}
 
 fn are_found(rt: &impl Abort, found: &[Bind<'_>], wanted: &[Wanted]) {
@@ -303,7 +303,7 @@ fn streams_are_read(rt: &impl Abort, alloc: Global) -> Result<(), Fail> {
     Ok(())
 }
 
-// A name of so many bytes is set, and nothing is bound to it.
+/// A name of so many bytes is set, and nothing is bound to it.
 fn name_is_read(alloc: Global, image: &Image<'_>, len: u16) -> Result<bool, Fail> {
     let mut stream = vec![in alloc; 0x40u8; 1]?;
     stream.resize(usize::from(len) + 1, b'_')?;

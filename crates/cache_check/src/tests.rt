@@ -8,7 +8,7 @@ use std::test::*;
 
 const SIZE: usize = 0x6000;
 
-// The numbers of four bytes in the file, each with its place; all others are 0.
+/// The numbers of four bytes in the file, each with its place; all others are 0.
 const NUMBERS: [(usize, u32); 107] = [
     // "dyld_v1  x86_64", the mapping table and the image table with their counts
     (0x0, 0x646c7964),
@@ -141,7 +141,7 @@ const SLIDES: [(usize, u32); 10] = [
     (0x402c, 0x8005),
 ];
 
-// `__LINKEDIT` of an image, by the place of its command.
+/// `__LINKEDIT` of an image, by the place of its command.
 const LINKEDIT: [(usize, u32); 12] = [
     (0x0, 0x19),
     (0x4, 0x48),
@@ -157,7 +157,7 @@ const LINKEDIT: [(usize, u32); 12] = [
     (0x3c, 1),
 ];
 
-// Edits of the file, its length, and the number of what is found, or 0, with the image and the place.
+/// Edits of the file, its length, and the number of what is found, or 0, with the image and the place.
 const CASES: [(&[(usize, u32)], usize, u16, u32, u64); 29] = [
     // the file itself, with another cpusubtype, and with a `__LINKEDIT` over a text before it
     (&[], SIZE, 0, 0, 0),
@@ -232,7 +232,7 @@ fn put_all(file: &mut [u8], at: usize, numbers: &[(usize, u32)]) {
     }
 }
 
-// The file with these numbers in it, cut to a length.
+/// The file with these numbers in it, cut to a length.
 fn file_with(alloc: Global, edits: &[(usize, u32)], len: usize) -> Result<Vec<u8>, Fail> {
     let mut file = vec![in alloc; 0u8; SIZE]?;
     put_all(&mut file, 0, &NUMBERS);
@@ -244,7 +244,7 @@ fn file_with(alloc: Global, edits: &[(usize, u32)], len: usize) -> Result<Vec<u8
     Ok(file)
 }
 
-// The number of what is found, the image and the place; nothing is 0, and want of memory none of these.
+/// The number of what is found, the image and the place; nothing is 0, and want of memory none of these.
 fn told(fault: ViewFault) -> Option<(u16, u32, u64)> {
     match fault {
         ViewFault::Broken(finding) => Some((finding.kind.number(), finding.image, finding.at)),

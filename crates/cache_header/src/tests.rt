@@ -8,7 +8,7 @@ use sample_dylibs::put_numbers;
 use std::alloc::Global;
 use std::test::*;
 
-// The numbers of four bytes in the head, each with its place; all others are 0.
+/// The numbers of four bytes in the head, each with its place; all others are 0.
 const HEAD: [(usize, u32); 47] = [
     // "dyld_v1  x86_64", then the tables and their counts
     (0x0, 0x646c7964),
@@ -65,8 +65,8 @@ const HEAD: [(usize, u32); 47] = [
     (0x19c, 0x62696c79),
 ];
 
-// Edits of a file of 0x30000 bytes with that head, its length, and the number of what is found, or 0, with the
-// image and the place.
+/// Edits of a file of 0x30000 bytes with that head, its length, and the number of what is found, or 0, with the
+/// image and the place.
 const CASES: [(&[(usize, u32)], usize, u16, u32, u64); 37] = [
     // the file itself, and cut behind the head
     (&[], 0x30000, 0, 0, 0x0),
@@ -126,7 +126,7 @@ const CASES: [(&[(usize, u32)], usize, u16, u32, u64); 37] = [
     (&[(0x10, 0x1f), (0xc, 0x0)], 0x30000, 202, 0, 0x0),
 ];
 
-// A file of so many bytes with the head and these numbers in it, cut to a length.
+/// A file of so many bytes with the head and these numbers in it, cut to a length.
 fn file_with(alloc: Global, edits: &[(usize, u32)], len: usize) -> Result<Vec<u8>, Fail> {
     let mut file = vec![in alloc; 0u8; 0x30000]?;
     put_numbers(&mut file, &HEAD);
@@ -135,7 +135,7 @@ fn file_with(alloc: Global, edits: &[(usize, u32)], len: usize) -> Result<Vec<u8
     Ok(file)
 }
 
-// The number of what is found, the image and the place; nothing is 0, and want of memory none of these.
+/// The number of what is found, the image and the place; nothing is 0, and want of memory none of these.
 fn found(alloc: Global, file: &[u8]) -> Option<(u16, u32, u64)> {
     match read_cache_head(alloc, file) {
         Ok(_) => Some((0, 0, 0)),
@@ -230,7 +230,7 @@ fn reads(rt: HostRuntime) -> Result<(), Fail> {
     Ok(())
 }
 
-// The head that the numbers tell.
+/// The head that the numbers tell.
 fn one_image(alloc: Global) -> Result<CacheHead, Fail>
     ensures { IfOk result IsWritable }
 {

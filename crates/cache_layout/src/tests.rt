@@ -9,10 +9,10 @@ use sample_dylibs::{data_dylib, put_numbers};
 use std::alloc::Global;
 use std::test::*;
 
-// Another name of the same length.
+/// Another name of the same length.
 const OTHER: &[(usize, u32)] = &[(0x1b0, 0x642e622f)];
 
-// A reference from the text segment to the data segment.
+/// A reference from the text segment to the data segment.
 const DELTA: &[(usize, u32)] = &[
     (0x1fc, 0xb),
     (0x800, 0x80c),
@@ -21,8 +21,8 @@ const DELTA: &[(usize, u32)] = &[
     (0x2010, 0x00088001),
 ];
 
-// A second section of the data segment, of 0x20000000 bytes without bytes in the file, for which its
-// command has 0x50 bytes more.
+/// A second section of the data segment, of 0x20000000 bytes without bytes in the file, for which its
+/// command has 0x50 bytes more.
 const LARGE: &[(usize, u32)] = &[
     (0x14, 0x230),
     (0xbc, 0xe8),
@@ -38,9 +38,9 @@ const LARGE: &[(usize, u32)] = &[
     (0x1b8, 0x20002000),
 ];
 
-// For the files of a set, each with how much further its commands from `__LINKEDIT` on stand and with its
-// edits: the new address, the file offset and the shift of each segment, and the ranges of the three
-// mappings; or where the segments end that are too many.
+/// For the files of a set, each with how much further its commands from `__LINKEDIT` on stand and with its
+/// edits: the new address, the file offset and the shift of each segment, and the ranges of the three
+/// mappings; or where the segments end that are too many.
 const CASES: [(
     &[(usize, &[(usize, u32)])],
     &[(u64, u64, u64)],
@@ -76,7 +76,7 @@ const CASES: [(
     (&[(0x50, LARGE)], &[], [(0, 0), (0, 0), (0, 0)], 0x20003000),
 ];
 
-// The commands behind the data segment's, which end at 0x200, so many bytes further back.
+/// The commands behind the data segment's, which end at 0x200, so many bytes further back.
 fn push_back(file: &mut [u8], further: usize)
     requires room { 0x250 ≤ length file.old }
     requires further { further ≤ 0x50 }
@@ -94,7 +94,7 @@ fn file_with(alloc: Global, further: usize, edits: &[(usize, u32)]) -> Result<Ve
     Ok(file)
 }
 
-// The layout of images that have short names.
+/// The layout of images that have short names.
 fn laid_out(alloc: Global, images: &[Image<'_>]) -> Option<Result<Layout, SetFault>>
     ensures { IfSome result (λ r. IfOk r (λ l. l ≡ layout_of images.now)) }
 {
@@ -104,7 +104,7 @@ fn laid_out(alloc: Global, images: &[Image<'_>]) -> Option<Result<Layout, SetFau
     Some(lay_out(alloc, images))
 }
 
-// The new address, the file offset and the shift of each segment of an image.
+/// The new address, the file offset and the shift of each segment of an image.
 fn push_places(
     layout: &Layout,
     images: &[Image<'_>],

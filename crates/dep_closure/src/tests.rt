@@ -9,7 +9,7 @@ use std::alloc::Global;
 use std::process::Abort;
 use std::test::Fail;
 
-// The commands of a dependency.
+/// The commands of a dependency.
 const LOAD: u32 = 0xC;
 
 const WEAK: u32 = 0x8000_0018;
@@ -18,7 +18,7 @@ const REEXPORT: u32 = 0x8000_001F;
 
 const UPWARD: u32 = 0x8000_0023;
 
-// Install names, each with its NUL, and one that isn't absolute.
+/// Install names, each with its NUL, and one that isn't absolute.
 type Path = [u8; 8];
 
 const A: Path = *b"/a\0\0\0\0\0\0";
@@ -35,10 +35,10 @@ const ABSENT: Path = *b"/absent\0";
 
 const RELATIVE: Path = *b"@rpath\0\0";
 
-// A dylib by its install name and its dependencies.
+/// A dylib by its install name and its dependencies.
 type Dylib = (Path, &'static [(u32, Path)]);
 
-// What is wanted of a set: the search order of each image, or the rule, the image and the place.
+/// What is wanted of a set: the search order of each image, or the rule, the image and the place.
 type Wanted = Result<&'static [&'static [u32]], (u16, u32, u64)>;
 
 const CASES: [(&[Dylib], Wanted); 17] = [
@@ -124,7 +124,7 @@ fn put_numbers(file: &mut Vec<u8>, numbers: &[u32]) -> Result<(), Fail> {
     Ok(())
 }
 
-// A segment command without sections, of one page.
+/// A segment command without sections, of one page.
 fn put_segment(
     file: &mut Vec<u8>,
     name: &[u8; 16],
@@ -140,7 +140,7 @@ fn put_segment(
     )
 }
 
-// A command with a name, of 32 bytes.
+/// A command with a name, of 32 bytes.
 fn put_name(file: &mut Vec<u8>, command: u32, name: &Path) -> Result<(), Fail> {
     put_numbers(file, &[command, 32, 24, 0, 0, 0])?;
     file.extend_from_slice(name)?;
@@ -177,7 +177,7 @@ fn files_of(alloc: Global, dylibs: &[Dylib]) -> Result<Vec<Vec<u8>>, Fail> {
     Ok(files)
 }
 
-// The images have these search orders.
+/// The images have these search orders.
 fn have_orders(rt: &impl Abort, links: &Links, images: &[Image<'_>], orders: &[&[u32]])
     requires few { length images.now ≤ 4097 }
     requires one_each { length links.now.orders ≡ length images.now }
@@ -209,7 +209,7 @@ fn sets(rt: HostRuntime) -> Result<(), Fail> {
     Ok(())
 }
 
-// What the ordinals of two images name.
+/// What the ordinals of two images name.
 const ORDINALS: [(u32, u64, Dep); 8] = [
     (0, 0, Dep::Image(0)),
     (0, 1, Dep::Missing),
@@ -231,7 +231,7 @@ fn names_of(rt: &impl Abort, links: &Links)
     }
 }
 
-// A type that workers may share and hand back.
+/// A type that workers may share and hand back.
 fn is_shared<T: Send + Sync>(_value: &T) {}
 
 #[test]

@@ -105,7 +105,7 @@ pub fn uleb4(value: u32) -> [u8; 4]
     ]
 }
 
-// The number at the front, and its length; at most ten calls deep.
+/// The number at the front, and its length; at most ten calls deep.
 fn front_uleb(bytes: &[u8], left: u8) -> Result<(u64, usize), UlebFault>
     requires { left ≤ 10 }
     ensures number { result ≡ uleb_within left bytes.now }
@@ -130,7 +130,7 @@ fn front_uleb(bytes: &[u8], left: u8) -> Result<(u64, usize), UlebFault>
     }
 }
 
-// The number with a sign at the front, and its length; at most ten calls deep.
+/// The number with a sign at the front, and its length; at most ten calls deep.
 fn front_sleb(bytes: &[u8], left: u8) -> Result<(i64, usize), UlebFault>
     requires { left ≤ 10 }
     ensures number { result ≡ sleb_within left bytes.now }
@@ -156,7 +156,7 @@ fn front_sleb(bytes: &[u8], left: u8) -> Result<(i64, usize), UlebFault>
     }
 }
 
-// The number whose lowest seven bits are `low` and whose others are those of `value`.
+/// The number whose lowest seven bits are `low` and whose others are those of `value`.
 fn above(low: u8, value: i64) -> i64
     requires low { low < 128 }
     requires from { neg_ℤ (pos (2 ^ 56)) ≤ℤ value }
@@ -166,7 +166,7 @@ fn above(low: u8, value: i64) -> i64
     i64::from(low) + 128 * value
 }
 
-// Seven bits in two's complement.
+/// Seven bits in two's complement.
 fn sign_extended(bits: u8) -> i64
     requires { bits < 128 }
     ensures { result ≡ signed_bits bits }

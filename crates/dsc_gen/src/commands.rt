@@ -10,7 +10,7 @@ use crate::spots::{Spot, Spots};
 use dsc_base::{Field, NoMemory, page_up, spell_fields};
 use std::alloc::Global;
 
-// Load commands, by their names in `mach-o/loader.h`.
+/// Load commands, by their names in `mach-o/loader.h`.
 const LC_SEGMENT_64: u32 = 0x19;
 
 const LC_ID_DYLIB: u32 = 0xD;
@@ -23,7 +23,7 @@ const LC_LOAD_DYLIB: u32 = 0xC;
 
 const LC_SEGMENT_SPLIT_INFO: u32 = 0x1E;
 
-// Values of the header's fields.
+/// Values of the header's fields.
 const MH_MAGIC_64: u32 = 0xFEED_FACF;
 
 const CPU_TYPE_X86_64: u32 = 0x0100_0007;

@@ -8,7 +8,7 @@ use dsc_base::{Name, NoMemory, put_uleb};
 use export_trie::{Export, Target, write_trie};
 use std::alloc::Global;
 
-// Opcodes of `mach-o/loader.h` with their immediates: pointers are their type, the data is segment 1.
+/// Opcodes of `mach-o/loader.h` with their immediates: pointers are their type, the data is segment 1.
 const REBASE_SET_TYPE_POINTER: u8 = 0x11;
 
 const REBASE_SET_DATA_AND_OFFSET_ULEB: u8 = 0x21;

@@ -5,8 +5,8 @@ use dsc_base::read_u32;
 use std::process::Abort;
 use std::test::Fail;
 
-// The header and its commands, the code with its first deltas and the last one, the data with its first
-// pointers and the last one, and of each stream the beginning; and the end of the file.
+/// The header and its commands, the code with its first deltas and the last one, the data with its first
+/// pointers and the last one, and of each stream the beginning; and the end of the file.
 const NUMBERS: [(usize, u32); 49] = [
     (0x0, 0xfeedfacf),
     (0x10, 0x7),

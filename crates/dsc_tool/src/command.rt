@@ -102,7 +102,7 @@ pub fn read_words(alloc: Global, words: &[String]) -> Result<Command, WordsFault
     }
 }
 
-// The build that the words behind its name ask for.
+/// The build that the words behind its name ask for.
 fn read_build(alloc: Global, words: &[String]) -> Result<Command, WordsFault>
     ensures spelled { IfOk result (λ c. option_and_then build_order (parts (Some (codes "jobs")) false (map string_bytes words.now)) ≡ Some (order_of c)) }
     ensures within { IfOk result IsWithin }
@@ -127,7 +127,7 @@ fn read_build(alloc: Global, words: &[String]) -> Result<Command, WordsFault>
     })
 }
 
-// The check that the words behind its name ask for.
+/// The check that the words behind its name ask for.
 fn read_check(alloc: Global, words: &[String]) -> Result<Command, WordsFault>
     ensures spelled { IfOk result (λ c. option_and_then check_order (parts None false (map string_bytes words.now)) ≡ Some (order_of c)) }
     ensures within { IfOk result IsWithin }
@@ -145,7 +145,7 @@ fn read_check(alloc: Global, words: &[String]) -> Result<Command, WordsFault>
     Ok(Command::Check { cache, inputs })
 }
 
-// The extraction that the words behind its name ask for.
+/// The extraction that the words behind its name ask for.
 fn read_extract(alloc: Global, words: &[String]) -> Result<Command, WordsFault>
     ensures spelled { IfOk result (λ c. option_and_then extract_order (parts (Some (codes "image")) false (map string_bytes words.now)) ≡ Some (order_of c)) }
     ensures within { IfOk result IsWithin }
@@ -165,7 +165,7 @@ fn read_extract(alloc: Global, words: &[String]) -> Result<Command, WordsFault>
     })
 }
 
-// The trial that the words behind its name ask for.
+/// The trial that the words behind its name ask for.
 fn read_trial(alloc: Global, words: &[String]) -> Result<Command, WordsFault>
     ensures spelled { IfOk result (λ c. option_and_then trial_order (parts (Some (codes "jobs")) false (map string_bytes words.now)) ≡ Some (order_of c)) }
     ensures within { IfOk result IsWithin }
@@ -191,7 +191,7 @@ fn read_trial(alloc: Global, words: &[String]) -> Result<Command, WordsFault>
     })
 }
 
-// How to build with so many jobs.
+/// How to build with so many jobs.
 fn with_jobs(jobs: u32) -> Options
     ensures { result ≡ with_jobs jobs }
 {
@@ -201,7 +201,7 @@ fn with_jobs(jobs: u32) -> Options
     }
 }
 
-// The name of the cache, which is the one word behind a command's name.
+/// The name of the cache, which is the one word behind a command's name.
 fn read_cache_name(alloc: Global, words: &[String]) -> Result<Text, WordsFault>
     ensures spelled { IfOk result (λ name. option_and_then cache_word (parts None false (map string_bytes words.now)) ≡ Some name) }
     ensures cause { IfErr result (IsWordsFault (option_and_then cache_word (parts None false (map string_bytes words.now)))) }
@@ -213,14 +213,14 @@ fn read_cache_name(alloc: Global, words: &[String]) -> Result<Text, WordsFault>
     Ok(Text::from_str(alloc, cache)?)
 }
 
-// Whether the names may be the inputs of the cache that is put at `out`.
+/// Whether the names may be the inputs of the cache that is put at `out`.
 fn are_inputs(out: &str, names: &[&str]) -> bool
     ensures { result ≡ are_inputs out.now (map (λ name. name.now) names.now) }
 {
     are_few(names) && !names.contains(&out)
 }
 
-// Whether there are as many names as a command may have inputs.
+/// Whether there are as many names as a command may have inputs.
 fn are_few(names: &[&str]) -> bool
     ensures { result ≡ are_few (map (λ name. name.now) names.now) }
 {

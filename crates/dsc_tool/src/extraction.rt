@@ -38,14 +38,14 @@ pub(crate) fn prepare_extract<S: Store>(
     extract_from(alloc, &view, prefix, image)
 }
 
-// Does nothing: its contract tells what is true of each slice of bytes.
+/// Does nothing: its contract tells what is true of each slice of bytes.
 fn are_bytes(bytes: &[u8])
     ensures { All (λ b. b < 256) bytes.now }
 {
     let _ = bytes;
 }
 
-// The cache of this name, read whole. Of its file nothing is kept but what the view keeps.
+/// The cache of this name, read whole. Of its file nothing is kept but what the view keeps.
 fn read_view<S: Store>(alloc: Global, name: &str, store: &mut S) -> Result<CacheView, Stop>
     ensures view { IfOk result (HasView (S.files store.old) name.now) }
     ensures stop { IfErr result (FlawStop view_finding (S.files store.old)
@@ -58,7 +58,7 @@ fn read_view<S: Store>(alloc: Global, name: &str, store: &mut S) -> Result<Cache
     Ok(cache_check::read_cache(alloc, &cache)?)
 }
 
-// The files that are asked for of a cache that was read, and the line.
+/// The files that are asked for of a cache that was read, and the line.
 fn extract_from(
     alloc: Global,
     view: &CacheView,
@@ -81,7 +81,7 @@ fn extract_from(
     })
 }
 
-// The files of all images, or of the first with a path.
+/// The files of all images, or of the first with a path.
 fn asked_files(
     alloc: Global,
     vetted: &Vetted<'_>,
@@ -106,7 +106,7 @@ fn asked_files(
     }
 }
 
-// The files of so many images, from this one on.
+/// The files of so many images, from this one on.
 fn image_files(
     alloc: Global,
     vetted: &Vetted<'_>,
@@ -127,7 +127,7 @@ fn image_files(
     Ok(files)
 }
 
-// The file of an image, at the prefix followed by the image's path.
+/// The file of an image, at the prefix followed by the image's path.
 fn image_file(
     alloc: Global,
     vetted: &Vetted<'_>,
@@ -159,7 +159,7 @@ fn file_name(alloc: Global, prefix: &str, path: &[u8]) -> Result<Text, NoMemory>
     Text::from_str(alloc, name.as_str())
 }
 
-// What is plain is text.
+/// What is plain is text.
 fn text_of(path: &[u8]) -> &str
     requires { is_plain_text path.now ≡ true }
     ensures { result.now ≡ path.entry.now }

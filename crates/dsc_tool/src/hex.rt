@@ -15,7 +15,7 @@ pub(crate) fn wide_hex(alloc: Global, number: u128) -> Result<String, NoMemory>
     Ok(text)
 }
 
-// Appends the last digits of the number, at most as many as there is room for.
+/// Appends the last digits of the number, at most as many as there is room for.
 fn push_digits(text: &mut String, number: u128, room: u32) -> Result<(), NoMemory>
     ensures { OnOk result (string_bytes text.new ≡ string_bytes text.old ++ digits_onto room 16 false number []) }
 {

@@ -57,8 +57,8 @@ pub(crate) fn read_files<S: Store>(
     Ok(inputs)
 }
 
-// The bytes of the file of this name and number, behind so many other inputs and earlier files of `before`
-// bytes together.
+/// The bytes of the file of this name and number, behind so many other inputs and earlier files of `before`
+/// bytes together.
 fn read_file<S: Store>(
     alloc: Global,
     store: &mut S,

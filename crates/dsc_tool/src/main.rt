@@ -56,12 +56,12 @@ fn main(rt: HostRuntime) -> ExitCode {
     exit_code(status)
 }
 
-// All words of the process, from the program's name on.
+/// All words of the process, from the program's name on.
 fn read_args(rt: &HostRuntime, alloc: Global) -> io::Result<Vec<String>> {
     Ok(env::args(rt)?.collect(alloc)?)
 }
 
-// The words behind the program's name.
+/// The words behind the program's name.
 fn behind_name(words: &[String]) -> &[String]
     ensures { result.now ≡ drop 1 words.now }
 {
@@ -71,7 +71,7 @@ fn behind_name(words: &[String]) -> &[String]
     }
 }
 
-// The status as that of the process.
+/// The status as that of the process.
 fn exit_code(status: Status) -> ExitCode
     ensures { exit_status result ≡ code_of status }
 {

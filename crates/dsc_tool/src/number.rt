@@ -46,7 +46,7 @@ fn from_1_to(most: u32, number: u128) -> Option<u32>
     }
 }
 
-// The number that 1 to so many decimal digits spell.
+/// The number that 1 to so many decimal digits spell.
 fn number_of(digits: &[u8], most: usize) -> Option<u128>
     requires { most ≤ 20 }
     ensures { result ≡ spec.number_of most digits.now }

@@ -76,7 +76,7 @@ pub(crate) fn prepare<R: Threads + Sync, S: Store, G: Gate + Sync>(
     }
 }
 
-// The cache of the inputs, to be put at `out`, and the line that tells of it.
+/// The cache of the inputs, to be put at `out`, and the line that tells of it.
 fn prepare_build<R: Threads + Sync, S: Store, G: Gate + Sync>(
     rt: &R,
     alloc: Global,
@@ -112,8 +112,8 @@ fn one_file(alloc: Global, name: Text, bytes: Vec<u8>, line: String) -> Result<P
     })
 }
 
-// The verdict on the cache of this name and the inputs. That the cache is too large is one, and no input behind
-// it is read then.
+/// The verdict on the cache of this name and the inputs. That the cache is too large is one, and no input behind
+/// it is read then.
 fn prepare_check<S: Store>(
     alloc: Global,
     name: &str,
@@ -133,7 +133,7 @@ fn prepare_check<S: Store>(
     }
 }
 
-// What a check comes to, of however many inputs, whose cache isn't read.
+/// What a check comes to, of however many inputs, whose cache isn't read.
 fn check_halted(alloc: Global, stop: Stop) -> Result<Product, Stop>
     ensures product { IfOk result (λ p. (images : ℕ) → check_halted images stop ≡ Ok (made_of p)) }
     ensures stop { IfErr result (λ s. (s ≡ stops.Memory) ⊎ ((images : ℕ) → (s ≡ stop) × (check_halted images stop ≡ Err stop))) }
@@ -143,7 +143,7 @@ fn check_halted(alloc: Global, stop: Stop) -> Result<Product, Stop>
     Ok(only_text(alloc, Ending::Differs, line.into_bytes()))
 }
 
-// The finding that is what a check finds, where its inputs aren't all read.
+/// The finding that is what a check finds, where its inputs aren't all read.
 fn found_in(stop: Stop) -> Result<Finding, Stop>
     ensures { result ≡ found_in stop }
 {
@@ -155,7 +155,7 @@ fn found_in(stop: Stop) -> Result<Finding, Stop>
     }
 }
 
-// The verdict on the cache and the inputs, which are read behind it.
+/// The verdict on the cache and the inputs, which are read behind it.
 fn check_files<S: Store>(
     alloc: Global,
     cache: &[u8],
@@ -174,7 +174,7 @@ fn check_files<S: Store>(
     Ok(only_text(alloc, ending_of(&verdict), line.into_bytes()))
 }
 
-// A run is done where a cache agrees with its files.
+/// A run is done where a cache agrees with its files.
 fn ending_of(verdict: &Verdict) -> Ending
     ensures { result ≡ ending_of verdict.now }
 {
@@ -184,7 +184,7 @@ fn ending_of(verdict: &Verdict) -> Ending
     }
 }
 
-// The list of the images of the cache of this name.
+/// The list of the images of the cache of this name.
 fn prepare_list<S: Store>(alloc: Global, name: &str, store: &mut S) -> Result<Product, Stop>
     ensures product { IfOk result (λ p. TextWorks list_text (S.files store.old) name.now (made_of p)) }
     ensures stop { IfErr result (HeadStop (S.files store.old) (S.get_faults store.old) (S.get_faults store.new) name.now) }
@@ -196,7 +196,7 @@ fn prepare_list<S: Store>(alloc: Global, name: &str, store: &mut S) -> Result<Pr
     Ok(only_text(alloc, Ending::Done, text))
 }
 
-// What the head of the cache of this name says.
+/// What the head of the cache of this name says.
 fn prepare_info<S: Store>(alloc: Global, name: &str, store: &mut S) -> Result<Product, Stop>
     ensures product { IfOk result (λ p. TextWorks info_text (S.files store.old) name.now (made_of p)) }
     ensures stop { IfErr result (HeadStop (S.files store.old) (S.get_faults store.old) (S.get_faults store.new) name.now) }
@@ -208,7 +208,7 @@ fn prepare_info<S: Store>(alloc: Global, name: &str, store: &mut S) -> Result<Pr
     Ok(only_text(alloc, Ending::Done, text))
 }
 
-// The line that tells of the cache of trial dylibs.
+/// The line that tells of the cache of trial dylibs.
 fn prepare_trial<R: Threads + Sync, G: Gate + Sync>(
     rt: &R,
     alloc: Global,
@@ -236,7 +236,7 @@ fn only_text(alloc: Global, ending: Ending, text: Vec<u8>) -> Product
     }
 }
 
-// The head of the cache of this name. Nothing of the cache is copied but what the head keeps.
+/// The head of the cache of this name. Nothing of the cache is copied but what the head keeps.
 fn read_head<S: Store>(alloc: Global, name: &str, store: &mut S) -> Result<CacheHead, Stop>
     ensures head { IfOk result (HasHead (S.files store.old) name.now) }
     ensures stop { IfErr result (HeadStop (S.files store.old) (S.get_faults store.old) (S.get_faults store.new) name.now) }

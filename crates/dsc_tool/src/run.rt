@@ -60,7 +60,7 @@ pub fn run<R: Threads + Sync, S: Store, O: Sink, E: Sink, G: Gate + Sync>(
     }
 }
 
-// Puts the files in their order, and then the text on standard output.
+/// Puts the files in their order, and then the text on standard output.
 fn deliver<S: Store, O: Sink, E: Sink>(
     alloc: Global,
     product: &Product,
@@ -86,7 +86,7 @@ fn deliver<S: Store, O: Sink, E: Sink>(
     product.ending.status()
 }
 
-// Puts the files in their order. The first that isn't put ends this.
+/// Puts the files in their order. The first that isn't put ends this.
 fn put_files<S: Store>(alloc: Global, files: &[NewFile], store: &mut S) -> Result<(), PutFault>
     ensures all { OnOk result (S.files store.new ≡ with_files (S.files store.old) (new_files files.now)) }
     ensures short { IfErr result (PutsShort (S.files store.old) (S.files store.new)
@@ -99,7 +99,7 @@ fn put_files<S: Store>(alloc: Global, files: &[NewFile], store: &mut S) -> Resul
     Ok(())
 }
 
-// Says on standard error why the run stopped.
+/// Says on standard error why the run stopped.
 fn tell_stop<E: Sink>(alloc: Global, stop: Stop, err: &mut E) -> Status
     ensures { TellsStop stop (E.written err.old) (E.faults err.old)
         (E.written err.new) (E.faults err.new) result }

@@ -39,7 +39,7 @@ pub(crate) fn split_words<'a>(
     }
 }
 
-// A command that takes any number of plain words and, where there is an option of this name, its value.
+/// A command that takes any number of plain words and, where there is an option of this name, its value.
 fn words_command<'a>(alloc: Global, long: Option<&'a str>) -> Result<Command<'a>, AllocError>
     ensures { IfOk result (λ c. app_of c ≡ words_app (option_map (λ l. l.now) long.entry)) }
 {
@@ -75,7 +75,7 @@ fn parse_fault(error: &Error) -> WordsFault
     }
 }
 
-// What a parse found.
+/// What a parse found.
 fn matched_parts<'a>(alloc: Global, matches: &ArgMatches<'a>) -> Result<Split<'a>, AllocError>
     ensures { IfOk result (IsMatched matches.now) }
 {

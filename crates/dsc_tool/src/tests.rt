@@ -22,7 +22,7 @@ use std::process::Abort;
 use std::test::Fail;
 use std::thread::Threads;
 
-// What a run answers, and what both streams hold after it.
+/// What a run answers, and what both streams hold after it.
 #[derive(Drop)]
 struct Answer {
     status: Status,
@@ -30,7 +30,7 @@ struct Answer {
     err: MemSink,
 }
 
-// Runs the words of the line, with room for so many bytes on each stream.
+/// Runs the words of the line, with room for so many bytes on each stream.
 fn run_line<R: Threads + Sync, S: Store>(
     rt: &R,
     alloc: Global,
@@ -46,7 +46,7 @@ fn run_line<R: Threads + Sync, S: Store>(
     run_words(rt, alloc, &words, store, out_room, err_room)
 }
 
-// The same of these words.
+/// The same of these words.
 fn run_words<R: Threads + Sync, S: Store>(
     rt: &R,
     alloc: Global,
@@ -70,7 +70,7 @@ fn owned(alloc: Global, words: &[&str]) -> Result<Vec<String>, AllocError> {
     Ok(owned)
 }
 
-// A store whose files are empty until one is too large. It doesn't tell its files, so it counts a fault.
+/// A store whose files are empty until one is too large. It doesn't tell its files, so it counts a fault.
 #[derive(Drop)]
 struct LargeStore {
     empty_files: u64,
@@ -100,7 +100,7 @@ impl Store for LargeStore {
     }
 }
 
-// What a run over a store with the empty file A says, where the gets and puts with these numbers fail.
+/// What a run over a store with the empty file A says, where the gets and puts with these numbers fail.
 const UNREAD: [(&str, Option<u32>, &str); 5] = [
     ("build c B", None, "dsc: cannot read input 0\n"),
     ("build c A", Some(0), "dsc: cannot read input 0\n"),
@@ -132,8 +132,8 @@ fn inputs_that_are_not_read_are_told(rt: HostRuntime) -> Result<(), Fail> {
     Ok(())
 }
 
-// How many empty files stand before one that is too large, and what is said of it. Reading goes before
-// the rules that an empty file breaks.
+/// How many empty files stand before one that is too large, and what is said of it. Reading goes before
+/// the rules that an empty file breaks.
 const TOO_LARGE: [(u64, &str); 3] = [
     (0, "dsc: refused 1 FileTooLarge image 0 at 0x4000000\n"),
     (1, "dsc: refused 1 FileTooLarge image 1 at 0x4000000\n"),
@@ -155,9 +155,9 @@ fn an_input_that_is_too_large_is_refused(rt: HostRuntime) -> Result<(), Fail> {
     Ok(())
 }
 
-// Numbers of 8 bytes in the cache of the plain dylib. The text mapping ends where the data mapping, of
-// size 0, and the linkedit mapping begin; slide information has 40 bytes; the rest of the region is the
-// most that the cache may slide.
+/// Numbers of 8 bytes in the cache of the plain dylib. The text mapping ends where the data mapping, of
+/// size 0, and the linkedit mapping begin; slide information has 40 bytes; the rest of the region is the
+/// most that the cache may slide.
 const CACHE_NUMBERS: [(usize, u64); 23] = [
     (0x10, 0x3_0000_00F8),
     (0x18, 0x1_0000_0158),
@@ -228,7 +228,7 @@ fn a_plain_dylib_is_built(rt: HostRuntime) -> Result<(), Fail> {
     Ok(())
 }
 
-// Numbers of four bytes to set in the dylib with data, each with its place.
+/// Numbers of four bytes to set in the dylib with data, each with its place.
 fn put_all(file: &mut [u8], numbers: &[(usize, u32)]) {
     for (place, value) in numbers {
         if *place < file.len() && file.len() - *place >= 4 {
@@ -263,7 +263,7 @@ fn other_files_are_refused(rt: HostRuntime) -> Result<(), Fail> {
     )
 }
 
-// A universal file with an entry for i386, and, where it has two entries, behind it one of the dylib with data.
+/// A universal file with an entry for i386, and, where it has two entries, behind it one of the dylib with data.
 fn universal_file(alloc: Global, entries: u32) -> Result<Vec<u8>, NoMemory> {
     let mut file = Vec::new(alloc);
     file.resize(0x1000, 0)?;
@@ -300,10 +300,10 @@ fn a_universal_file_is_built_as_its_slice(rt: HostRuntime) -> Result<(), Fail> {
     Ok(())
 }
 
-// In the dylib with two pages of data: six bytes of rebases, of which the last is a word at the end of the first page.
+/// In the dylib with two pages of data: six bytes of rebases, of which the last is a word at the end of the first page.
 const AT_THE_EDGE: [(usize, u32); 3] = [(0x1CC, 6), (0x3000, 0x1FF8_2111), (0x3004, 0x51)];
 
-// A file alone is refused with this text, and nothing is put.
+/// A file alone is refused with this text, and nothing is put.
 fn is_refused<R: Threads + Sync + Abort>(
     rt: &R,
     alloc: Global,
@@ -320,16 +320,16 @@ fn is_refused<R: Threads + Sync + Abort>(
     Ok(())
 }
 
-// A dylib with data and no rebase, whose install name begins with these four bytes.
+/// A dylib with data and no rebase, whose install name begins with these four bytes.
 fn still_dylib(alloc: Global, name: u32) -> Result<Vec<u8>, NoMemory> {
     let mut file = data_dylib(alloc, 0x1000)?;
     put_all(&mut file, &[(0x1CC, 0), (0x1B0, name)]);
     Ok(file)
 }
 
-// Numbers of 8 bytes in the cache of one such dylib: where slide information stands and how long it is,
-// the most that the cache may slide, the number and size of the commands of the cached header, where
-// text and data go, the word in the data, and the start of its page.
+/// Numbers of 8 bytes in the cache of one such dylib: where slide information stands and how long it is,
+/// the most that the cache may slide, the number and size of the commands of the cached header, where
+/// text and data go, the word in the data, and the start of its page.
 const ONE: [(usize, u64); 9] = [
     (0x38, 0x3000),
     (0x40, 42),
@@ -342,7 +342,7 @@ const ONE: [(usize, u64); 9] = [
     (0x3028, 0x4000),
 ];
 
-// The same of two: where text and data of each go.
+/// The same of two: where text and data of each go.
 const TWO: [(usize, u64); 6] = [
     (0x158, 0x7FFF_2000_1000),
     (0x178, 0x7FFF_2000_2000),

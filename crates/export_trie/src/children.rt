@@ -30,8 +30,8 @@ pub(crate) struct Child<'a> {
     pub(crate) offset: usize,
 }
 
-// The child at the front of the bytes, in a trie of `total` bytes; `seen` tells which bytes edges of this
-// node began with before.
+/// The child at the front of the bytes, in a trie of `total` bytes; `seen` tells which bytes edges of this
+/// node began with before.
 #[tactic(auto, unfolding(crate::specs::Nodes::child_at))]
 fn read_child<'a>(
     total: usize,

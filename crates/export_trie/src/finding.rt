@@ -8,7 +8,7 @@ ghost use Rattle.export_trie.specs.Finding.{target_found, target_named, IsTarget
 use crate::export::{Entry, Found};
 use crate::node::{read_head, read_number, read_text};
 
-// The bytes after a node's terminal, which begin with the count of its children.
+/// The bytes after a node's terminal, which begin with the count of its children.
 #[tactic(auto, unfolding(crate::specs::Nodes::head_at))]
 fn after_head(bytes: &[u8]) -> Option<&[u8]>
     ensures { (terminal : Option Terminal) (rest : List ℕ) → head_at bytes.now ≡ Ok (terminal, rest) → rest_of result ≡ Some rest }
@@ -22,8 +22,8 @@ fn after_head(bytes: &[u8]) -> Option<&[u8]>
     Some(&rest[size as usize..])
 }
 
-// The node of the edge that begins the name, among the children at the front of the bytes, and what follows
-// that edge in the name.
+/// The node of the edge that begins the name, among the children at the front of the bytes, and what follows
+/// that edge in the name.
 fn follow_edge<'n>(count: u8, bytes: &[u8], name: &'n [u8]) -> Option<(usize, &'n [u8])>
     ensures { (total : ℕ) (firsts : List ℕ) (children : List Child) → children_at total count firsts bytes.now ≡ Ok children → Follows children name.entry.now (step_of result) }
 {
@@ -43,7 +43,7 @@ fn follow_edge<'n>(count: u8, bytes: &[u8], name: &'n [u8]) -> Option<(usize, &'
     None
 }
 
-// The same among the children of the node at `at`.
+/// The same among the children of the node at `at`.
 fn follow<'n>(bytes: &[u8], at: usize, name: &'n [u8]) -> Option<(usize, &'n [u8])>
     requires { at ≤ length bytes.now }
     ensures { (terminal : Option Terminal) (children : List Child) → node_at bytes.now at ≡ Ok (terminal, children) → Follows children name.entry.now (step_of result) }
@@ -57,7 +57,7 @@ fn follow<'n>(bytes: &[u8], at: usize, name: &'n [u8]) -> Option<(usize, &'n [u8
     }
 }
 
-// What the terminal of the node at `at` has.
+/// What the terminal of the node at `at` has.
 #[tactic(auto, unfolding(crate::specs::Nodes::node_at))]
 fn entry_at<'a>(bytes: &'a [u8], at: usize) -> Found<'a>
     requires { at ≤ length bytes.now }

@@ -39,7 +39,7 @@ impl Model for NameIndex {
     ghost view = { λ index. map (λ names. exports_in names.entries) index.maps.items };
 }
 
-// Where a target leads, its name not copied.
+/// Where a target leads, its name not copied.
 fn entry_of(target: &Target) -> Entry<'_>
     ensures { target_in result ≡ target.now }
 {
@@ -53,7 +53,7 @@ fn entry_of(target: &Target) -> Entry<'_>
     }
 }
 
-// One more export, of a name that isn't there.
+/// One more export, of a name that isn't there.
 fn keep_name(names: &mut IndexMap<Vec<u8>, Meaning>, export: Export) -> Result<(), NoMemory>
     requires { target_named (exports_in names.old.entries) export.name ≡ None }
     ensures { OnOk result (exports_in names.new.entries ≡ exports_in names.old.entries ++ export ∷ []) }
@@ -69,7 +69,7 @@ fn keep_name(names: &mut IndexMap<Vec<u8>, Meaning>, export: Export) -> Result<(
     }
 }
 
-// Exports by their names, which rise.
+/// Exports by their names, which rise.
 fn names_of(alloc: Global, exports: Vec<Export>) -> Result<IndexMap<Vec<u8>, Meaning>, NoMemory>
     requires { Rising exports.items }
     ensures { IfOk result (λ names. exports_in names.entries ≡ exports.items) }
@@ -81,7 +81,7 @@ fn names_of(alloc: Global, exports: Vec<Export>) -> Result<IndexMap<Vec<u8>, Mea
     Ok(names)
 }
 
-// Where the export of this name leads.
+/// Where the export of this name leads.
 fn entry_named<'m>(names: &'m IndexMap<Vec<u8>, Meaning>, name: &[u8]) -> Option<Entry<'m>>
     ensures { option_map target_in result ≡ target_named (exports_in names.entry.now.entries) name.now }
 {

@@ -27,7 +27,7 @@ impl<'a> Model for Measured<'a> {
     ghost view = { λ m. record { exports = m.exports.now; depth = m.depth } };
 }
 
-// How long the terminal is of a node whose name has `depth` bytes, or the size of a node that has none.
+/// How long the terminal is of a node whose name has `depth` bytes, or the size of a node that has none.
 #[tactic(auto, unfolding(crate::specs::Writing::terminal_bytes))]
 fn terminal_len(depth: usize, first: &Export) -> u64
     requires { renamed_len first.now.target ≤ name_limit }
@@ -41,7 +41,7 @@ fn terminal_len(depth: usize, first: &Export) -> u64
     uleb_len(size) as u64 + size
 }
 
-// How long a node's edges are, with the offsets of the children, which come onto `pending`.
+/// How long a node's edges are, with the offsets of the children, which come onto `pending`.
 fn measure_edges<'a>(
     pending: &mut Vec<Measured<'a>>,
     depth: usize,
@@ -66,7 +66,7 @@ fn measure_edges<'a>(
     Ok(len)
 }
 
-// How long a node is; its children come onto `pending`.
+/// How long a node is; its children come onto `pending`.
 fn measure_node<'a>(
     pending: &mut Vec<Measured<'a>>,
     depth: usize,

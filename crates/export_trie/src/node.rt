@@ -84,7 +84,7 @@ impl<T: Drop> From<AllocFailed<T>> for ReadFault {
     }
 }
 
-// A variable-length number, and the bytes after it.
+/// A variable-length number, and the bytes after it.
 #[tactic(auto, unfolding(crate::specs::Nodes::number_at))]
 pub(crate) fn read_number(bytes: &[u8]) -> Result<(u64, &[u8]), Rule>
     ensures read { Reads (λ p. (p.0, p.1.now)) result (number_at bytes.now) }
@@ -96,7 +96,7 @@ pub(crate) fn read_number(bytes: &[u8]) -> Result<(u64, &[u8]), Rule>
     }
 }
 
-// A text up to its byte 0, and the bytes after that.
+/// A text up to its byte 0, and the bytes after that.
 pub(crate) fn read_text(bytes: &[u8]) -> Result<(&[u8], &[u8]), Rule>
     ensures read { Reads (λ p. (p.0.now, p.1.now)) result (text_at bytes.now) }
     ensures shorter { IfOk result (λ p. length p.1.now ≤ length bytes.now) }
@@ -107,7 +107,7 @@ pub(crate) fn read_text(bytes: &[u8]) -> Result<(&[u8], &[u8]), Rule>
     }
 }
 
-// The flags as they are kept, or the rule that they break.
+/// The flags as they are kept, or the rule that they break.
 fn kept_flags(flags: u64) -> Result<u8, Rule>
     ensures { Reads (λ kept. kept) result (if are_bad_flags flags then Err TrieBadFlags else (if is_resolver flags then Err TrieResolver else Ok flags)) }
 {
@@ -121,7 +121,7 @@ fn kept_flags(flags: u64) -> Result<u8, Rule>
     Ok(flags as u8)
 }
 
-// Where an export with these flags leads, and the bytes after that.
+/// Where an export with these flags leads, and the bytes after that.
 #[tactic(auto, unfolding(crate::specs::Nodes::target_at))]
 fn read_entry(flags: u64, bytes: &[u8]) -> Result<(Entry<'_>, &[u8]), Rule>
     ensures read { Reads (λ p. (target_in p.0, p.1.now)) result (target_at flags bytes.now) }
@@ -147,7 +147,7 @@ fn read_entry(flags: u64, bytes: &[u8]) -> Result<(Entry<'_>, &[u8]), Rule>
     Ok((entry, rest))
 }
 
-// The terminal of this size at the front of the bytes.
+/// The terminal of this size at the front of the bytes.
 #[tactic(auto, unfolding(crate::specs::Nodes::terminal_at))]
 fn read_terminal(size: usize, bytes: &[u8]) -> Result<Terminal<'_>, Rule>
     ensures { Reads terminal_in result (terminal_at size bytes.now) }

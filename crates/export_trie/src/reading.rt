@@ -16,7 +16,7 @@ use crate::node::{ReadFault, Terminal, read_head};
 use dsc_base::{EXPORT_NAMES_LIMIT, Fault, NAME_LIMIT, Name, NoMemory, RECORD_LIMIT, Rule, Site};
 use std::alloc::Global;
 
-// Marks the node and puts its name in place of the name at hand.
+/// Marks the node and puts its name in place of the name at hand.
 fn enter(next: &Pending<'_>, marks: &mut Vec<bool>, name: &mut Vec<u8>) -> Result<(), ReadFault>
     requires inside { next.now.offset < length marks.old.items }
     requires prefix { next.now.prefix ≤ length name.old.items }
@@ -35,7 +35,7 @@ fn enter(next: &Pending<'_>, marks: &mut Vec<bool>, name: &mut Vec<u8>) -> Resul
     Ok(())
 }
 
-// How many bytes a re-export's own name there has.
+/// How many bytes a re-export's own name there has.
 fn renamed_len(target: &Entry<'_>) -> u64
     ensures { result ≡ renamed_len (target_in target.now) }
 {
@@ -45,7 +45,7 @@ fn renamed_len(target: &Entry<'_>) -> u64
     }
 }
 
-// Where an export leads, with a name of its own.
+/// Where an export leads, with a name of its own.
 fn target_from(alloc: Global, entry: Entry<'_>) -> Result<Target, NoMemory>
     ensures { IfOk result (λ target. target ≡ target_in entry.entry) }
 {
@@ -59,7 +59,7 @@ fn target_from(alloc: Global, entry: Entry<'_>) -> Result<Target, NoMemory>
     })
 }
 
-// Keeps the terminal, if there is one, as an export of this name; `size` counts the bytes of all names.
+/// Keeps the terminal, if there is one, as an export of this name; `size` counts the bytes of all names.
 #[tactic(auto, unfolding(crate::specs::Order::too_many))]
 fn keep(
     alloc: Global,
@@ -89,7 +89,7 @@ fn keep(
     Ok(())
 }
 
-// Reads a node whole: its export is kept, and its children are to come.
+/// Reads a node whole: its export is kept, and its children are to come.
 #[tactic(auto, unfolding(crate::specs::Order::opened))]
 fn open_node<'a>(
     alloc: Global,
@@ -111,8 +111,8 @@ fn open_node<'a>(
     push_children(bytes.len(), name.len(), rest, pending)
 }
 
-// What is at hand while a trie is read: which nodes were reached, the name of the last one, the nodes that
-// are still to come (the next one on top), the exports so far and the bytes of their names.
+/// What is at hand while a trie is read: which nodes were reached, the name of the last one, the nodes that
+/// are still to come (the next one on top), the exports so far and the bytes of their names.
 #[derive(Drop)]
 struct Walk<'a> {
     bytes: &'a [u8],
@@ -124,7 +124,7 @@ struct Walk<'a> {
 }
 
 impl<'a> Walk<'a> {
-    // Visits the node that was taken from the top of `pending`.
+    /// Visits the node that was taken from the top of `pending`.
     fn visit(&mut self, alloc: Global, next: &Pending<'a>) -> Result<(), ReadFault>
         requires stands { Stands self.old.bytes.now self.old.marks.items self.old.name.items (next.now ∷ reverse self.old.pending.items) self.old.exports.items self.old.size }
         ensures bytes { self.new.bytes ≡ self.old.bytes }
@@ -145,7 +145,7 @@ impl<'a> Walk<'a> {
     }
 }
 
-// Visits all nodes. The exports stand in the order of the visits.
+/// Visits all nodes. The exports stand in the order of the visits.
 fn walk_all(alloc: Global, bytes: &[u8]) -> Result<Vec<Export>, Fault>
     ensures walked { IfOk result (λ exports. IsWalked bytes.now exports.items) }
     ensures accepted { OnOk result (trie_break bytes.now ≡ None) }
@@ -160,7 +160,7 @@ fn walk_all(alloc: Global, bytes: &[u8]) -> Result<Vec<Export>, Fault>
     Ok(walk.exports)
 }
 
-// Before the first visit, of the node at 0 if the trie has any bytes.
+/// Before the first visit, of the node at 0 if the trie has any bytes.
 fn start<'a>(alloc: Global, bytes: &'a [u8]) -> Result<Walk<'a>, NoMemory>
     ensures bytes { IfOk result (λ walk. walk.bytes.now ≡ bytes.entry.now) }
     ensures stands { IfOk result (λ walk. Stands bytes.entry.now walk.marks.items walk.name.items (reverse walk.pending.items) walk.exports.items walk.size) }

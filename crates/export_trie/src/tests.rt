@@ -9,7 +9,7 @@ use std::process::Abort;
 use std::sync::ledger::{Blank, Ledger};
 use std::test::Fail;
 
-// A trie that is accepted, what it has of a name, and the trie that is written of its exports.
+/// A trie that is accepted, what it has of a name, and the trie that is written of its exports.
 #[derive(Clone, Copy)]
 struct Row<'r> {
     trie: &'r [u8],
@@ -62,7 +62,7 @@ fn accepted<L: Ledger>(
     Ok(())
 }
 
-// The trie is refused by this rule at this node.
+/// The trie is refused by this rule at this node.
 fn refused(rt: &impl Abort, alloc: Global, bytes: &[u8], rule: Rule, at: u64) {
     match read_trie(alloc, bytes) {
         Err(Fault::Broken(site)) => {

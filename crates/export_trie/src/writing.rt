@@ -15,7 +15,7 @@ use dsc_base::{NoMemory, put_uleb, uleb_len, uleb4};
 use std::alloc::Global;
 use std::marker::Model;
 
-// How many bytes `put_target` appends.
+/// How many bytes `put_target` appends.
 #[tactic(auto, unfolding(crate::specs::Writing::target_bytes))]
 pub(crate) fn target_len(target: &Target) -> u64
     requires { renamed_len target.now ≤ name_limit }
@@ -45,7 +45,7 @@ fn put_target(out: &mut Vec<u8>, target: &Target) -> Result<(), NoMemory>
     Ok(())
 }
 
-// The terminal of a node whose name has `depth` bytes, or that it has none.
+/// The terminal of a node whose name has `depth` bytes, or that it has none.
 #[tactic(auto, unfolding(crate::specs::Writing::terminal_bytes))]
 fn put_terminal(out: &mut Vec<u8>, depth: usize, first: &Export) -> Result<(), NoMemory>
     requires { renamed_len first.now.target ≤ name_limit }
@@ -62,7 +62,7 @@ fn put_terminal(out: &mut Vec<u8>, depth: usize, first: &Export) -> Result<(), N
     Ok(())
 }
 
-// How many of the exports have the same byte at `depth` as the first one.
+/// How many of the exports have the same byte at `depth` as the first one.
 fn same_edge_len(depth: usize, first: &Export, exports: &[Export]) -> usize
     requires first { depth < length first.now.name }
     requires others { All (λ export. depth < length export.name) exports.now }
@@ -78,7 +78,7 @@ fn same_edge_len(depth: usize, first: &Export, exports: &[Export]) -> usize
     exports.len()
 }
 
-// How many bytes two names have in common at their fronts.
+/// How many bytes two names have in common at their fronts.
 fn common_len(a: &[u8], b: &[u8]) -> usize
     ensures { result ≡ common_prefix_len nat_eq a.now b.now }
 {
@@ -107,8 +107,8 @@ impl<'a> Model for Planned<'a> {
     ghost view = { λ p. record { exports = p.exports.now; depth = p.depth; hole = p.hole } };
 }
 
-// How many bytes all names of the group have in common, which is what the first and the last have, since
-// names rise. All have `depth` bytes in common.
+/// How many bytes all names of the group have in common, which is what the first and the last have, since
+/// names rise. All have `depth` bytes in common.
 fn group_len(depth: usize, first: &Export, others: &[Export]) -> usize
     requires { IsReady depth (first.now ∷ others.now) }
     ensures { result ≡ shared_len first.now.name others.now }
@@ -120,7 +120,7 @@ fn group_len(depth: usize, first: &Export, others: &[Export]) -> usize
     }
 }
 
-// How many bytes two names have in common, which begin with the same `depth` bytes.
+/// How many bytes two names have in common, which begin with the same `depth` bytes.
 fn common_from(depth: usize, a: &[u8], b: &[u8]) -> usize
     requires first { depth ≤ length a.now }
     requires second { depth ≤ length b.now }
@@ -130,7 +130,7 @@ fn common_from(depth: usize, a: &[u8], b: &[u8]) -> usize
     depth + common_len(&a[depth..], &b[depth..])
 }
 
-// The edge of these names from `depth` to `len`, and room for the offset of its node.
+/// The edge of these names from `depth` to `len`, and room for the offset of its node.
 fn put_edge(out: &mut Vec<u8>, depth: usize, len: usize, first: &Export) -> Result<(), NoMemory>
     requires order { depth ≤ len }
     requires within { len ≤ length first.now.name }
@@ -141,7 +141,7 @@ fn put_edge(out: &mut Vec<u8>, depth: usize, len: usize, first: &Export) -> Resu
     Ok(())
 }
 
-// Exports whose names have `len` bytes in common, and those behind them.
+/// Exports whose names have `len` bytes in common, and those behind them.
 #[derive(Clone, Copy)]
 pub(crate) struct Group<'a> {
     first: &'a Export,
@@ -150,7 +150,7 @@ pub(crate) struct Group<'a> {
     pub(crate) rest: &'a [Export],
 }
 
-// The first exports that have the same byte at `depth`.
+/// The first exports that have the same byte at `depth`.
 pub(crate) fn next_group<'a>(depth: usize, exports: &'a [Export]) -> Option<Group<'a>>
     requires { IsReady depth exports.now }
     ensures { MatchOption result (exports.entry.now ≡ []) (λ group. IsGroup depth exports.entry.now group.first.now group.exports.now group.rest.now group.len) }
@@ -169,7 +169,7 @@ pub(crate) fn next_group<'a>(depth: usize, exports: &'a [Export]) -> Option<Grou
     })
 }
 
-// The edge of a group, and the plan of its node.
+/// The edge of a group, and the plan of its node.
 fn put_group<'a>(
     out: &mut Vec<u8>,
     pending: &mut Vec<Planned<'a>>,
@@ -190,7 +190,7 @@ fn put_group<'a>(
     Ok(())
 }
 
-// The count of a node's children and their edges; the children come onto `pending`, the first one on top.
+/// The count of a node's children and their edges; the children come onto `pending`, the first one on top.
 fn put_edges<'a>(
     out: &mut Vec<u8>,
     pending: &mut Vec<Planned<'a>>,
@@ -215,7 +215,7 @@ fn put_edges<'a>(
     Ok(())
 }
 
-// A node with room for the offsets of its children, which are planned.
+/// A node with room for the offsets of its children, which are planned.
 fn put_node<'a>(
     out: &mut Vec<u8>,
     pending: &mut Vec<Planned<'a>>,
@@ -237,7 +237,7 @@ fn put_node<'a>(
     put_edges(out, pending, depth, below)
 }
 
-// Writes a node that was planned, and its place among its parent's edges.
+/// Writes a node that was planned, and its place among its parent's edges.
 fn put_next<'a>(
     out: &mut Vec<u8>,
     pending: &mut Vec<Planned<'a>>,
@@ -252,7 +252,7 @@ fn put_next<'a>(
     put_node(out, pending, next.depth, next.exports)
 }
 
-// Writes the place of the node that comes next where its parent has room for it.
+/// Writes the place of the node that comes next where its parent has room for it.
 fn fill_offset(out: &mut Vec<u8>, hole: usize)
     requires inside { hole + 4 ≤ length out.old.items }
     requires small { length out.old.items < 2 ^ 28 }
@@ -262,7 +262,7 @@ fn fill_offset(out: &mut Vec<u8>, hole: usize)
     put_piece(out, hole, &offset);
 }
 
-// Writes the piece over the bytes from `at`.
+/// Writes the piece over the bytes from `at`.
 fn put_piece(bytes: &mut [u8], at: usize, piece: &[u8])
     requires { at + length piece.now ≤ length bytes.old }
     ensures { bytes.new ≡ put_over at piece.now bytes.old }
@@ -270,7 +270,7 @@ fn put_piece(bytes: &mut [u8], at: usize, piece: &[u8])
     bytes[at..at + piece.len()].copy_from_slice(piece);
 }
 
-// The number of a target, which is one of 64 bits.
+/// The number of a target, which is one of 64 bits.
 fn number_of(target: &Target) -> u64
     ensures { HasNumber target.now }
 {
@@ -280,7 +280,7 @@ fn number_of(target: &Target) -> u64
     }
 }
 
-// All numbers of exports are of 64 bits, since each is read.
+/// All numbers of exports are of 64 bits, since each is read.
 fn read_numbers(exports: &[Export])
     ensures { All (λ export. HasNumber export.target) exports.now }
 {

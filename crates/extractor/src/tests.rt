@@ -12,7 +12,7 @@ use sample_dylibs::{bytes_with, put_numbers};
 use std::alloc::Global;
 use std::test::*;
 
-// The file with these numbers in it.
+/// The file with these numbers in it.
 fn file_with(alloc: Global, edits: &[(usize, u32)]) -> Result<Vec<u8>, Fail> {
     let mut file = bytes_with(alloc, SIZE, &NUMBERS)?;
     put_numbers(&mut file, &SLIDES);
@@ -20,7 +20,7 @@ fn file_with(alloc: Global, edits: &[(usize, u32)]) -> Result<Vec<u8>, Fail> {
     Ok(file)
 }
 
-// The number of what is found, the image and the place; nothing is 0, and want of memory none of these.
+/// The number of what is found, the image and the place; nothing is 0, and want of memory none of these.
 fn told(fault: ViewFault) -> Option<(u16, u32, u64)> {
     match fault {
         ViewFault::Broken(finding) => Some((finding.kind.number(), finding.image, finding.at)),
@@ -71,7 +71,7 @@ fn parts(rt: HostRuntime) -> Result<(), Fail> {
     Ok(())
 }
 
-// The bytes of the cache's segments, and zeros up to a length, with these numbers in them.
+/// The bytes of the cache's segments, and zeros up to a length, with these numbers in them.
 fn wanted_file(
     alloc: Global,
     cache: &[u8],

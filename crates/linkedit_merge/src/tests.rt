@@ -20,7 +20,7 @@ use sample_dylibs::{put_numbers, symbols_dylib};
 use std::alloc::Global;
 use std::test::*;
 
-// The symbols `_a` at 0x800 and `_b` at 0x900, and what the commands say of them.
+/// The symbols `_a` at 0x800 and `_b` at 0x900, and what the commands say of them.
 const TABLES: [(usize, u32); 15] = [
     (0x134, 0x2),
     (0x138, 0x1020),
@@ -39,7 +39,7 @@ const TABLES: [(usize, u32); 15] = [
     (0x1024, 0x625f),
 ];
 
-// Linkedits at 0x3000 and 0x4000, by their numbers of four bytes from the start, and the place and size of the pool.
+/// Linkedits at 0x3000 and 0x4000, by their numbers of four bytes from the start, and the place and size of the pool.
 const ONE: [u32; 8] = [1, 0x10e, 0x20001800, 0x7fff, 4, 0x10f, 0x20001900, 0x7fff];
 
 const TWO: [u32; 16] = [
@@ -54,7 +54,7 @@ const CASES: [(&[u32], &[u32], (u64, u64)); 2] = [
     (&[0x642e732f, 0x642e742f], &TWO, (0x4040, 7)),
 ];
 
-// A dylib whose install name begins with these four letters.
+/// A dylib whose install name begins with these four letters.
 fn file_of(alloc: Global, letters: u32) -> Result<Vec<u8>, Fail> {
     let mut file = symbols_dylib(alloc, 0xa000)?;
     put_numbers(&mut file, &TABLES);
@@ -82,7 +82,7 @@ fn tables_of<'a>(alloc: Global, images: &[Image<'a>]) -> Result<Vec<Tables<'a>>,
     Ok(tables)
 }
 
-// The layout of images that have short names.
+/// The layout of images that have short names.
 fn laid_out(alloc: Global, images: &[Image<'_>]) -> Result<Layout, Fail>
     ensures layout { IfOk result (λ l. l ≡ layout_of images.now) }
     ensures fits { OnOk result (layout_break images.now ≡ None) }
@@ -109,7 +109,7 @@ fn exports_inside(alloc: Global, set: &Set<'_, '_>) -> Result<(), Fail>
     Ok(())
 }
 
-// Slide information above the limit of a cache is refused, from sizes alone.
+/// Slide information above the limit of a cache is refused, from sizes alone.
 fn large_is_refused(
     alloc: Global,
     set: &Set<'_, '_>,
@@ -213,7 +213,7 @@ fn small_linkedits(rt: HostRuntime) -> Result<(), Fail> {
     Ok(())
 }
 
-// The pool of `_a` and `_b`, the entry of `_b`, and an index.
+/// The pool of `_a` and `_b`, the entry of `_b`, and an index.
 const POOLED: [u8; 27] = *b"\0_a\0_b\0\x04\0\0\0\x0f\x01\0\0\x09\0\0\0\0\0\0\0\x05\0\0\0";
 
 fn symbol_of<'a>(name: &'a [u8], alias: Option<&'a [u8]>) -> Symbol<'a> {

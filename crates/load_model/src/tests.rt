@@ -11,7 +11,7 @@ use std::alloc::Global;
 use std::process::Abort;
 use std::test::Fail;
 
-// `/a.dylib` needs `/b.dylib`, and its word at 0x1020 is bound to `_b` there, 8 bytes on.
+/// `/a.dylib` needs `/b.dylib`, and its word at 0x1020 is bound to `_b` there, 8 bytes on.
 const FIRST: [(usize, u32); 16] = [
     (0x10, 0x7),
     (0x14, 0x208),
@@ -34,7 +34,7 @@ const FIRST: [(usize, u32); 16] = [
     (0x201c, 0x0),
 ];
 
-// `/b.dylib` exports `_b` at 0x1800.
+/// `/b.dylib` exports `_b` at 0x1800.
 const SECOND: [(usize, u32); 6] = [
     (0x1b0, 0x642e622f),
     // export_off and export_size
@@ -48,11 +48,11 @@ const SECOND: [(usize, u32); 6] = [
 
 const SLIDES: [u64; 2] = [0x1000, 0x10000];
 
-// The starts of `__TEXT` and `__DATA`, of each of the two images: 0 and 0x1000, and its slide.
+/// The starts of `__TEXT` and `__DATA`, of each of the two images: 0 and 0x1000, and its slide.
 const STARTS: [[u64; 2]; 2] = [[0x1000, 0x2000], [0x10000, 0x11000]];
 
-// The numbers 0x10 and 0x20 bytes into `__DATA`, of each of the two images. The first one is rebased: 0x1020 and
-// the image's slide. The other one is the first image's bind: 0x1800, 8 and the second image's slide.
+/// The numbers 0x10 and 0x20 bytes into `__DATA`, of each of the two images. The first one is rebased: 0x1020 and
+/// the image's slide. The other one is the first image's bind: 0x1800, 8 and the second image's slide.
 const NUMBERS: [[u64; 2]; 2] = [[0x2020, 0x11808], [0x11020, 0]];
 
 fn file_with(alloc: Global, numbers: &[(usize, u32)]) -> Result<Vec<u8>, Fail> {
@@ -84,7 +84,7 @@ fn loaded_of(
     }
 }
 
-// The segments of an image of a set of files.
+/// The segments of an image of a set of files.
 fn segments_of(alloc: Global, files: &[Vec<u8>], image: u32) -> Result<Vec<LoadedSegment>, Fail> {
     if files.len() > 4096 {
         return Err("few files")?;
@@ -95,7 +95,7 @@ fn segments_of(alloc: Global, files: &[Vec<u8>], image: u32) -> Result<Vec<Loade
     }
 }
 
-// The number so many bytes into the data.
+/// The number so many bytes into the data.
 fn number_in(segments: &[LoadedSegment], at: usize) -> Option<u64> {
     match segments.get(1) {
         Some(segment) => read_u64(&segment.bytes, at),

@@ -57,7 +57,7 @@ fn can_move(image: &Image<'_>, moves: &Moves, spots: &LinkSpots) -> bool
         && spots.indirect.len % 4 == 0
 }
 
-// The dylib of a case.
+/// The dylib of a case.
 fn file_of(alloc: Global, case: &Case) -> Result<Vec<u8>, Fail> {
     match case.front {
         Front::DataDylib => Ok(data_dylib(alloc, case.len)?),
@@ -65,7 +65,7 @@ fn file_of(alloc: Global, case: &Case) -> Result<Vec<u8>, Fail> {
     }
 }
 
-// A file with nothing but a header at a place.
+/// A file with nothing but a header at a place.
 fn file_with(alloc: Global, len: usize, place: usize, header: &[u8]) -> Result<Vec<u8>, Fail> {
     let mut file = vec![in alloc; 0u8; len]?;
     if place <= file.len() && header.len() <= file.len() - place {
@@ -74,7 +74,7 @@ fn file_with(alloc: Global, len: usize, place: usize, header: &[u8]) -> Result<V
     Ok(file)
 }
 
-// The header in a file of its own, which is as it should be.
+/// The header in a file of its own, which is as it should be.
 fn alone_with(alloc: Global, moved: &Image<'_>, case: &Case) -> Result<Vec<u8>, Fail> {
     let moves = Moves {
         segments: case.alone_moves.to_vec(alloc)?,

@@ -30,7 +30,7 @@ impl<'a> Model for Commands<'a> {
     ghost invariant = { λ c. AreWhole c.left c.at c.rest.now };
 }
 
-// The command at the front of the bytes, at an offset of its header, and what is behind it.
+/// The command at the front of the bytes, at an offset of its header, and what is behind it.
 #[tactic(auto, using(crate::proofs::Splitting::whole_piece))]
 fn split_first<'a>(bytes: &'a [u8], at: u64) -> (Command<'a>, &'a [u8])
     requires { begins_whole bytes.now ≡ true }

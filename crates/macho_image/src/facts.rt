@@ -3,7 +3,7 @@ ghost use Rattle.macho_image.specs.Breaks.{IsSound};
 
 use crate::Image;
 
-// A type that workers may share and hand back.
+/// A type that workers may share and hand back.
 fn is_shared<T: Send + Sync>(_value: &T) {}
 
 impl<'a> Image<'a> {

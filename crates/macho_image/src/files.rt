@@ -9,7 +9,7 @@ use crate::{Form, Image, pick_slice, read_image};
 use dsc_base::{Fault, NoMemory, SetFault, Span};
 use std::alloc::{AllocError, Global};
 
-// A part of a file.
+/// A part of a file.
 fn part_of<'a>(file: &'a [u8], part: Span) -> &'a [u8]
     requires { part.at + part.len ≤ length file.now }
     ensures { result.now ≡ bytes_of file.entry.now part }
@@ -17,7 +17,7 @@ fn part_of<'a>(file: &'a [u8], part: Span) -> &'a [u8]
     &file[part.at as usize..][..part.len as usize]
 }
 
-// The dylib of a file: the slice of a universal file, and another file whole.
+/// The dylib of a file: the slice of a universal file, and another file whole.
 fn dylib_of<'a>(file: &'a [u8]) -> Result<&'a [u8], Fault>
     ensures dylib { IfOk result (λ b. b.now ≡ dylib_of file.entry.now) }
     ensures cause { Refuses (slice_break file.entry.now) result }
@@ -28,7 +28,7 @@ fn dylib_of<'a>(file: &'a [u8]) -> Result<&'a [u8], Fault>
     }
 }
 
-// The image of a file's dylib, or the first rule that the file breaks.
+/// The image of a file's dylib, or the first rule that the file breaks.
 fn read_dylib<'a>(alloc: Global, file: &'a [u8]) -> Result<Image<'a>, Fault>
     ensures image { IfOk result (λ i. i ≡ image_of (dylib_of file.entry.now) 0) }
     ensures unbroken { OnOk result (shape_break file.entry.now ≡ None) }
@@ -60,7 +60,7 @@ pub fn read_images<'a>(alloc: Global, files: &'a [Vec<u8>]) -> Result<Vec<Image<
     Ok(images)
 }
 
-// Appends an image.
+/// Appends an image.
 fn push_image<'a>(images: &mut Vec<Image<'a>>, image: Image<'a>) -> Result<(), NoMemory>
     ensures { OnOk result (images.new.items ≡ images.old.items ++ image.entry ∷ []) }
 {

@@ -1,7 +1,7 @@
 //! Where the fields of Mach-O headers, load commands and sections stand: offsets in bytes from the start of
 //! the structure that has the field, and sizes of structures in bytes. Names are those of `mach-o/loader.h`.
 
-// mach_header_64
+/// mach_header_64
 pub const HEADER_MAGIC: usize = 0;
 
 pub const HEADER_CPUTYPE: usize = 4;
@@ -16,12 +16,12 @@ pub const HEADER_FLAGS: usize = 24;
 
 pub const SIZE_OF_HEADER: usize = 32;
 
-// load_command
+/// load_command
 pub const COMMAND_CMD: usize = 0;
 
 pub const COMMAND_CMDSIZE: usize = 4;
 
-// segment_command_64
+/// segment_command_64
 pub const SEGMENT_SEGNAME: usize = 8;
 
 pub const SEGMENT_VMADDR: usize = 24;
@@ -42,7 +42,7 @@ pub const SEGMENT_FLAGS: usize = 68;
 
 pub const SIZE_OF_SEGMENT_COMMAND: usize = 72;
 
-// section_64
+/// section_64
 pub const SECTION_SECTNAME: usize = 0;
 
 pub const SECTION_SEGNAME: usize = 16;
@@ -59,7 +59,7 @@ pub const SECTION_FLAGS: usize = 64;
 
 pub const SIZE_OF_SECTION: usize = 80;
 
-// dyld_info_command
+/// dyld_info_command
 pub const DYLD_INFO_REBASE_OFF: usize = 8;
 
 pub const DYLD_INFO_REBASE_SIZE: usize = 12;
@@ -80,12 +80,12 @@ pub const DYLD_INFO_EXPORT_OFF: usize = 40;
 
 pub const DYLD_INFO_EXPORT_SIZE: usize = 44;
 
-// linkedit_data_command
+/// linkedit_data_command
 pub const LINKEDIT_DATA_DATAOFF: usize = 8;
 
 pub const LINKEDIT_DATA_DATASIZE: usize = 12;
 
-// symtab_command
+/// symtab_command
 pub const SYMTAB_SYMOFF: usize = 8;
 
 pub const SYMTAB_NSYMS: usize = 12;
@@ -94,8 +94,8 @@ pub const SYMTAB_STROFF: usize = 16;
 
 pub const SYMTAB_STRSIZE: usize = 20;
 
-// dysymtab_command, which begins with the first index and the count of each of three groups of
-// symbols
+/// dysymtab_command, which begins with the first index and the count of each of three groups of
+/// symbols
 pub const DYSYMTAB_ILOCALSYM: usize = 8;
 
 pub const DYSYMTAB_NLOCALSYM: usize = 12;
@@ -116,8 +116,8 @@ pub const DYSYMTAB_NEXTREL: usize = 68;
 
 pub const DYSYMTAB_NLOCREL: usize = 76;
 
-// dylib_command
+/// dylib_command
 pub const DYLIB_NAME_OFFSET: usize = 8;
 
-// uuid_command
+/// uuid_command
 pub const UUID_UUID: usize = 8;

@@ -15,7 +15,7 @@ use crate::numbers::{
 };
 use dsc_base::{Fault, Rule};
 
-// The kinds of which a header has one command at most, each by its numbers.
+/// The kinds of which a header has one command at most, each by its numbers.
 const ONCE: [(u32, u32); 10] = [
     (LC_ID_DYLIB, LC_ID_DYLIB),
     (LC_UUID, LC_UUID),
@@ -57,7 +57,7 @@ fn is_of_kind(command: &Command<'_>, kind: (u32, u32)) -> bool
     command.number == kind.0 || command.number == kind.1
 }
 
-// Where the second command of a kind stands.
+/// Where the second command of a kind stands.
 fn second_of(commands: &[Command<'_>], kind: (u32, u32)) -> Option<u64>
     ensures { result ≡ second_of commands.now kind }
 {

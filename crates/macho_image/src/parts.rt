@@ -48,7 +48,7 @@ pub(crate) fn dyld_info_of<'a>(commands: &[Command<'a>]) -> Option<&'a [u8]>
     None
 }
 
-// The part whose offset and size, in entries of so many bytes, stand at two fields of a command.
+/// The part whose offset and size, in entries of so many bytes, stand at two fields of a command.
 fn part<'a>(
     bytes: &'a [u8],
     command: Option<&[u8]>,
@@ -145,7 +145,7 @@ fn info_streams<'a>(bytes: &'a [u8], info: Option<&[u8]>) -> InfoStreams<'a>
     }
 }
 
-// The part that a linkedit_data_command of the given number names.
+/// The part that a linkedit_data_command of the given number names.
 fn data_stream<'a>(bytes: &'a [u8], commands: &[Command<'_>], number: u32) -> &'a [u8]
     requires { 16 ≤ least_size number }
     ensures { result.now ≡ spec.part_in bytes.entry.now (spec.command_where (λ n. nat_eq n number) (spec.pieces_of commands.now)) 1 fields.linkedit_data_dataoff fields.linkedit_data_datasize }

@@ -78,7 +78,7 @@ fn relocated_segment(segments: &[SegmentCommand]) -> Option<u64>
     segments.iter().find(|s| is_relocated(s)).map(|s| s.at)
 }
 
-// Whether LC_DYSYMTAB counts external or local relocations.
+/// Whether LC_DYSYMTAB counts external or local relocations.
 fn names_relocations(command: &Command<'_>) -> bool
     ensures { result ≡ rules.names_relocations command.now }
 {
@@ -107,7 +107,7 @@ fn is_in_file_bytes(segment: &SegmentCommand, section: &SectionFields) -> bool
         && u128::from(section.offset) == u128::from(segment.fileoff) + distance
 }
 
-// Whether a section stands at or above the floor in a segment whose sections begin at `start`.
+/// Whether a section stands at or above the floor in a segment whose sections begin at `start`.
 fn section_stands(
     segment: &SegmentCommand,
     start: u128,
@@ -124,7 +124,7 @@ fn section_stands(
         && (section.size == 0 || is_zero_fill(section.flags) || is_in_file_bytes(segment, section))
 }
 
-// The sections of a segment, each at or above the end of the one before it.
+/// The sections of a segment, each at or above the end of the one before it.
 fn sections_stand(segment: &SegmentCommand, header_size: u64) -> bool
     ensures { result ≡ rules.sections_stand segment.now (rules.sections_start header_size segment.now) 0 segment.now.sections }
 {
@@ -139,7 +139,7 @@ fn sections_stand(segment: &SegmentCommand, header_size: u64) -> bool
     true
 }
 
-// The least address of a section: in `__TEXT` the header's end.
+/// The least address of a section: in `__TEXT` the header's end.
 fn sections_start(segment: &SegmentCommand, header_size: u64) -> u128
     ensures { result ≡ rules.sections_start header_size segment.now }
 {
@@ -160,7 +160,7 @@ fn fallen_section(segments: &[SegmentCommand], header_size: u64) -> Option<u64>
         .map(|s| s.at)
 }
 
-// The first segment that has a 256th section.
+/// The first segment that has a 256th section.
 fn crowded(segments: &[SegmentCommand]) -> Option<u64>
     ensures { result ≡ rules.first_crowded 0 segments.now }
 {

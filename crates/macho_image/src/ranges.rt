@@ -24,7 +24,7 @@ struct Bounds {
     high: u128,
 }
 
-// Whether the part whose offset and size, in entries of so many bytes, stand at two fields leaves the range.
+/// Whether the part whose offset and size, in entries of so many bytes, stand at two fields leaves the range.
 fn leaves(bounds: Bounds, bytes: &[u8], entry: u64, offset: usize, size: usize) -> bool
     requires offset_in { offset + 4 ≤ length bytes.now }
     requires size_in { size + 4 ≤ length bytes.now }

@@ -24,7 +24,7 @@ use crate::shape::segment_shape;
 use dsc_base::{Fault, Rule};
 use std::alloc::Global;
 
-// The image that the commands of a header spell, which breaks no rule.
+/// The image that the commands of a header spell, which breaks no rule.
 #[tactic(auto, unfolding(crate::specs::Macho::image_from))]
 fn make_image<'a>(
     alloc: Global,
@@ -56,7 +56,7 @@ fn make_image<'a>(
     })
 }
 
-// The rules on segments, sections, names and parts of the linkedit, in a file of so many bytes.
+/// The rules on segments, sections, names and parts of the linkedit, in a file of so many bytes.
 #[tactic(auto, unfolding(crate::specs::Breaks::load_break))]
 fn check_loads(
     alloc: Global,

@@ -42,7 +42,7 @@ fn is_good_linkedit(segment: &SegmentCommand) -> bool
     is_linkedit(segment) && segment.initprot == 1 && segment.nsects == 0
 }
 
-// The first segment between the first and the last one that has the name of either.
+/// The first segment between the first and the last one that has the name of either.
 fn misnamed(between: &[SegmentCommand]) -> Option<u64>
     ensures { result ≡ rules.first_segment rules.has_reserved_name between.now }
 {
@@ -62,7 +62,7 @@ fn bad_linkedit(last: &SegmentCommand) -> Option<u64>
     }
 }
 
-// Of the segments behind the first one, the first that isn't in its place.
+/// Of the segments behind the first one, the first that isn't in its place.
 fn misplaced_behind(segments: &[SegmentCommand]) -> Option<u64>
     ensures { result ≡ rules.misplaced_behind segments.now }
 {

@@ -11,7 +11,7 @@ use sample_dylibs::{bytes_with, data_dylib, put_numbers};
 use std::alloc::Global;
 use std::test::*;
 
-// Edits of the dylib with data, its length, and the number of the rule that it breaks, or 0, with the place.
+/// Edits of the dylib with data, its length, and the number of the rule that it breaks, or 0, with the place.
 const CASES: [(&[(usize, u32)], usize, u16, u64); 50] = [
     // the file itself
     (&[], 0x2040, 0, 0x0),
@@ -156,7 +156,7 @@ const CASES: [(&[(usize, u32)], usize, u16, u64); 50] = [
     (&[(0x1f8, 0x1fff)], 0x2040, 17, 0x1f0),
 ];
 
-// The header at 0x1000 of a cache of 0x4000 bytes: a dylib of text and linkedit alone.
+/// The header at 0x1000 of a cache of 0x4000 bytes: a dylib of text and linkedit alone.
 const CACHED: [(usize, u32); 46] = [
     (0x1000, 0xfeedfacf),
     (0x1004, 0x1000007),
@@ -206,7 +206,7 @@ const CACHED: [(usize, u32); 46] = [
     (0x111c, 0x62696c79),
 ];
 
-// The number and the place of the rule that a file breaks; none is 0.
+/// The number and the place of the rule that a file breaks; none is 0.
 fn broken(alloc: Global, file: &[u8], header_at: u64, form: Form) -> Option<(u16, u64)>
     requires { form ≡ Standalone → header_at ≡ 0 }
 {
@@ -217,7 +217,7 @@ fn broken(alloc: Global, file: &[u8], header_at: u64, form: Form) -> Option<(u16
     }
 }
 
-// A dylib whose text segment has so many sections of no size.
+/// A dylib whose text segment has so many sections of no size.
 fn crowded_dylib(alloc: Global, sections: u32) -> Result<Vec<u8>, Fail>
     requires { sections ≤ 256 }
 {

@@ -11,7 +11,7 @@ use dsc_base::{Rule, Site, Span};
 
 const FAT_MAGIC: u32 = 0xCAFE_BABE;
 
-// A part of a universal file: the processor that it is for, and where it lies.
+/// A part of a universal file: the processor that it is for, and where it lies.
 #[derive(Clone, Copy)]
 struct Arch {
     processor: u32,
@@ -38,7 +38,7 @@ fn arch_fields(bytes: &[u8]) -> Arch
     }
 }
 
-// The first of so many entries that is for x86_64.
+/// The first of so many entries that is for x86_64.
 fn find_x86_64(count: u32, table: &[u8]) -> Option<Arch>
     requires { 20 * count ≤ length table.now }
     ensures { result ≡ find spec.is_x86_64 (spec.archs_in count table.now) }
@@ -54,7 +54,7 @@ fn find_x86_64(count: u32, table: &[u8]) -> Option<Arch>
     None
 }
 
-// The part of a file of so many bytes that an entry names, where the file has it.
+/// The part of a file of so many bytes that an entry names, where the file has it.
 fn part_of(len: usize, arch: Arch) -> Option<Span>
     ensures { result ≡ spec.part_of len (Some arch) }
 {

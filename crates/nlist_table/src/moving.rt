@@ -7,7 +7,7 @@ use crate::Symbol;
 use crate::kind::is_in_section;
 use macho_image::{Image, Moves};
 
-// The number of the segment of a section, which counts from 1.
+/// The number of the segment of a section, which counts from 1.
 fn segment_of(image: &Image<'_>, section: u8) -> usize
     requires first { 1 ≤ section }
     requires last { section ≤ length image.now.sections }
@@ -19,7 +19,7 @@ fn segment_of(image: &Image<'_>, section: u8) -> usize
     section.segment as usize
 }
 
-// The new address of a segment less its old one.
+/// The new address of a segment less its old one.
 fn shift_of(image: &Image<'_>, moves: &Moves, segment: usize) -> u64
     requires within { segment < length image.now.segments }
     requires moves { length moves.now ≡ length image.now.segments }

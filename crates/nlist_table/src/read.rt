@@ -63,7 +63,7 @@ fn symbols<'a>(
     Ok(symbols)
 }
 
-// The tables of an image with so many sections, from their bytes.
+/// The tables of an image with so many sections, from their bytes.
 fn read_parts<'a>(
     alloc: Global,
     sections: usize,

@@ -28,7 +28,7 @@ fn append_symbols(file: &mut Vec<u8>, symbols: &[Nlist]) -> Result<(), Fail> {
     Ok(())
 }
 
-// The dylib with these tables: symbols, indirect entries and strings, one behind the other.
+/// The dylib with these tables: symbols, indirect entries and strings, one behind the other.
 fn file_with(alloc: Global, case: &Case) -> Result<Vec<u8>, Fail> {
     let mut file = symbols_dylib(alloc, 0x1000)?;
     append_symbols(&mut file, case.symbols)?;
@@ -59,7 +59,7 @@ fn file_with(alloc: Global, case: &Case) -> Result<Vec<u8>, Fail> {
     Ok(file)
 }
 
-// Whether the value of a symbol can be moved.
+/// Whether the value of a symbol can be moved.
 fn can_move(symbol: &Symbol<'_>, image: &Image<'_>, moves: &Moves) -> bool
     ensures section { result ≡ true → HasSection (length image.now.sections) symbol.now.kind symbol.now.section }
     ensures moves { result ≡ true → length moves.now ≡ length image.now.segments }
@@ -83,7 +83,7 @@ fn is_found(symbol: &Symbol<'_>, image: &Image<'_>, moves: &Moves, wanted: &Foun
 
 fn is_shared<T: Send + Sync>(_value: &T) {}
 
-// The tables are the wanted ones, as are the values of the symbols where they have moved.
+/// The tables are the wanted ones, as are the values of the symbols where they have moved.
 fn are_found(
     rt: &impl Abort,
     tables: &Tables<'_>,

@@ -5,7 +5,7 @@ use sample_dylibs::put_numbers;
 use std::alloc::Global;
 use std::test::*;
 
-// The numbers of four bytes in a table with one own record, each with its place; all others are 0.
+/// The numbers of four bytes in a table with one own record, each with its place; all others are 0.
 const TABLE: [(usize, u32); 13] = [
     // "dsc_patches_v1"
     (0x0, 0x5f637364),
@@ -26,7 +26,7 @@ const TABLE: [(usize, u32); 13] = [
     (0x38, 0x2),
 ];
 
-// Edits of that table, its length, and whether it is one.
+/// Edits of that table, its length, and whether it is one.
 const CASES: [(&[(usize, u32)], usize, bool); 26] = [
     (&[(0x40, 0x600)], 0x48, true),
     // cut by one byte, one byte more, and no bytes

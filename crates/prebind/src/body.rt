@@ -49,7 +49,7 @@ fn is_out_of(segments: &[Segment<'_>], number: u32, address: u64) -> bool
     }
 }
 
-// The place of an address, by the segments before `__LINKEDIT` and the addresses of that.
+/// The place of an address, by the segments before `__LINKEDIT` and the addresses of that.
 fn find_in(
     segments: &[Segment<'_>],
     index: &SegmentIndex,

@@ -37,7 +37,7 @@ pub(crate) fn is_linkedit_at(segments: &[Segment<'_>], number: u32) -> bool
     }
 }
 
-// Whether an export leads into no segment, or into `__LINKEDIT`.
+/// Whether an export leads into no segment, or into `__LINKEDIT`.
 fn strays(segments: &[Segment<'_>], index: &SegmentIndex, header: u64, target: &Target) -> bool
     requires index { Indexes segments.now index.now }
     requires header { header ≡ header_address segments.now }
@@ -52,7 +52,7 @@ fn strays(segments: &[Segment<'_>], index: &SegmentIndex, header: u64, target: &
     }
 }
 
-// The first export that does.
+/// The first export that does.
 fn first_stray(segments: &[Segment<'_>], index: &SegmentIndex, exports: &[Export]) -> Option<usize>
     requires { Indexes segments.now index.now }
     ensures { result ≡ position (λ e. spec.strays segments.now e.target) exports.now }

@@ -46,7 +46,7 @@ impl Model for Indexed {
     ghost view = { λ i. record { frames = i.frames.items; names = i.names } };
 }
 
-// Types that workers may share and hand back.
+/// Types that workers may share and hand back.
 fn is_shared<T: Send + Sync>(_value: &T) {}
 
 impl Indexed {

@@ -56,7 +56,7 @@ pub fn place_words_by(
     place_counted::<Brand>(alloc, set, indexed, image, Blank::new(1))
 }
 
-// The same, with a counter of steps of its own.
+/// The same, with a counter of steps of its own.
 fn place_counted<L: Ledger>(
     alloc: Global,
     set: &Set<'_, '_>,
@@ -106,7 +106,7 @@ pub fn place_binds_by(
     place_binds_counted::<Brand>(alloc, set, indexed, image, Blank::new(1))
 }
 
-// The same, with a counter of steps of its own.
+/// The same, with a counter of steps of its own.
 #[tactic(auto, unfolding(crate::specs::Words::bound_words, crate::specs::WordRules::symbol_break))]
 fn place_binds_counted<L: Ledger>(
     alloc: Global,

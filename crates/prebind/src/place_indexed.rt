@@ -41,7 +41,7 @@ fn place_bind<L: Ledger>(
     place_resolved(index, bind, outcome)
 }
 
-// The bound words, or the first bind that breaks a rule.
+/// The bound words, or the first bind that breaks a rule.
 pub(crate) fn place_binds<L: Ledger>(
     alloc: Global,
     links: &Links,
@@ -64,7 +64,7 @@ pub(crate) fn place_binds<L: Ledger>(
     Ok(words)
 }
 
-// All words of an image, by its segments other than `__LINKEDIT` and what its streams spell.
+/// All words of an image, by its segments other than `__LINKEDIT` and what its streams spell.
 fn image_words<L: Ledger>(
     alloc: Global,
     links: &Links,

@@ -18,8 +18,8 @@ use export_trie::{Entry, NameIndex, Steps};
 use std::alloc::Global;
 use std::sync::ledger::Ledger;
 
-// The first image of a search order that exports a name, and where its export leads. It takes a step for each
-// image up to that one.
+/// The first image of a search order that exports a name, and where its export leads. It takes a step for each
+/// image up to that one.
 pub(crate) fn first_named<'a, L: Ledger>(
     names: &'a NameIndex,
     order: &[u32],
@@ -39,7 +39,7 @@ pub(crate) fn first_named<'a, L: Ledger>(
     None
 }
 
-// The place of an offset export of image number `image`.
+/// The place of an offset export of image number `image`.
 fn export_place(frame: &Frame, image: u32, offset: u64) -> Resolved
     requires { length frame.now.segments < 2 ^ 32 }
     ensures { result ≡ framed.framed_place frame.now image offset }
@@ -55,7 +55,7 @@ fn export_place(frame: &Frame, image: u32, offset: u64) -> Resolved
     }
 }
 
-// Where an export of image number `number` leads.
+/// Where an export of image number `number` leads.
 fn entry_step<'a>(frame: &Frame, number: u32, entry: Entry<'a>) -> Step<'a>
     requires { length frame.now.segments < 2 ^ 32 }
     ensures { step_seen result ≡ framed.framed_step frame.now number (target_in entry.entry) }
@@ -71,7 +71,7 @@ fn entry_step<'a>(frame: &Frame, number: u32, entry: Entry<'a>) -> Step<'a>
     }
 }
 
-// What is found in a search order leads to.
+/// What is found in a search order leads to.
 fn found_step<'a>(frames: &[Frame], found: Option<(u32, Entry<'a>)>) -> Step<'a>
     requires few { All (λ f. length f.segments < 2 ^ 32) frames.now }
     requires within { IfSome found (λ f. f.0 < length frames.now) }
@@ -83,7 +83,7 @@ fn found_step<'a>(frames: &[Frame], found: Option<(u32, Entry<'a>)>) -> Step<'a>
     }
 }
 
-// What an ordinal of an image and a name lead to.
+/// What an ordinal of an image and a name lead to.
 fn next_step<'s, L: Ledger>(
     links: &Links,
     indexed: &'s Indexed,

@@ -31,7 +31,7 @@ fn check_weak_binds(stream: &[u8]) -> Result<(), Fault>
     }
 }
 
-// Where binds stand.
+/// Where binds stand.
 fn places(alloc: Global, binds: &[Bind<'_>]) -> Result<Vec<Location>, NoMemory>
     ensures { IfOk result (λ v. v.items ≡ places_of binds.now) }
 {
@@ -42,7 +42,7 @@ fn places(alloc: Global, binds: &[Bind<'_>]) -> Result<Vec<Location>, NoMemory>
     Ok(places)
 }
 
-// The binds of both streams, those of the lazy one last.
+/// The binds of both streams, those of the lazy one last.
 fn both<'a>(mut bind: Vec<Bind<'a>>, mut lazy: Vec<Bind<'a>>) -> Result<Vec<Bind<'a>>, NoMemory>
     ensures { IfOk result (λ v. v.items ≡ bind.entry.items ++ lazy.entry.items) }
 {

@@ -14,8 +14,8 @@ use dsc_base::{Fault, NoMemory, Rule, Site};
 use indexmap::{IndexMap, IndexSet};
 use macho_image::Location;
 
-// How a rebase may stray: into `__LINKEDIT`, or into no segment, where none is recorded for it; or out of the
-// segment that is recorded.
+/// How a rebase may stray: into `__LINKEDIT`, or into no segment, where none is recorded for it; or out of the
+/// segment that is recorded.
 #[derive(Clone, Copy)]
 enum Stray {
     IntoLinkedit,
@@ -24,7 +24,7 @@ enum Stray {
 }
 
 impl Stray {
-    // The rule that it breaks.
+    /// The rule that it breaks.
     fn rule(self) -> Rule
         ensures { result ≡ steps.rule_of self }
     {
@@ -66,7 +66,7 @@ fn points_out_of_range(segments: &Body<'_, '_>, value: u64, recorded: Option<u32
     }
 }
 
-// The place of a value in the segment that contains it, unless that is `__LINKEDIT`.
+/// The place of a value in the segment that contains it, unless that is `__LINKEDIT`.
 fn value_place(segments: &Body<'_, '_>, image: u32, value: u64) -> Option<WordTarget>
     ensures { result ≡ steps.kept_target image segments.now value None }
 {
@@ -80,7 +80,7 @@ fn value_place(segments: &Body<'_, '_>, image: u32, value: u64) -> Option<WordTa
     }
 }
 
-// The place of a value in the segment that is recorded for it, unless it lies out of that.
+/// The place of a value in the segment that is recorded for it, unless it lies out of that.
 #[tactic(auto, unfolding(macho_image::specs::Places::above))]
 fn recorded_place(
     segments: &Body<'_, '_>,
@@ -100,7 +100,7 @@ fn recorded_place(
     })
 }
 
-// Where a rebase of image number `image` leads that has this value, unless it breaks a rule.
+/// Where a rebase of image number `image` leads that has this value, unless it breaks a rule.
 fn target_of(
     segments: &Body<'_, '_>,
     image: u32,
@@ -130,7 +130,7 @@ fn recorded_at(pointers: &IndexMap<u64, u32>, word: &Location) -> Option<u32>
     pointers.get(&word.address).copied()
 }
 
-// Whether a rebase with this value strays in one way.
+/// Whether a rebase with this value strays in one way.
 fn strays(segments: &Body<'_, '_>, value: u64, recorded: Option<u32>, stray: Stray) -> bool
     ensures { result ≡ steps.strays stray segments.now value recorded }
 {
@@ -161,7 +161,7 @@ fn first_straying(
     })
 }
 
-// Refuses the first rebase that strays in one way.
+/// Refuses the first rebase that strays in one way.
 fn check_stray(
     segments: &Body<'_, '_>,
     bound: &IndexSet<u64>,
@@ -180,8 +180,8 @@ fn check_stray(
     }
 }
 
-// Refuses the first of the rules that rebases break: all that lead into `__LINKEDIT` go before those that
-// lead into no segment, and these before recorded ones that leave their segment.
+/// Refuses the first of the rules that rebases break: all that lead into `__LINKEDIT` go before those that
+/// lead into no segment, and these before recorded ones that leave their segment.
 fn check_rebases(
     segments: &Body<'_, '_>,
     bound: &IndexSet<u64>,
@@ -196,8 +196,8 @@ fn check_rebases(
     Ok(())
 }
 
-// Appends the rebases that aren't bound, each with where it leads, and tells whether all keep the rules. It
-// looks each of them up once, and ends at one that breaks a rule.
+/// Appends the rebases that aren't bound, each with where it leads, and tells whether all keep the rules. It
+/// looks each of them up once, and ends at one that breaks a rule.
 fn place_rebases(
     segments: &Body<'_, '_>,
     bound: &IndexSet<u64>,

@@ -19,7 +19,7 @@ use export_trie::{Found, find};
 use macho_image::{Image, Segment, header_address};
 use std::alloc::Global;
 
-// What an ordinal and a name lead to at once: an outcome, or the entry of an image that re-exports the name.
+/// What an ordinal and a name lead to at once: an outcome, or the entry of an image that re-exports the name.
 pub(crate) enum Step<'a> {
     Ends(Resolved),
     Reexports {
@@ -36,7 +36,7 @@ fn export_named<'a>(streams: &ImageStreams<'a>, name: &[u8]) -> Found<'a>
     find(streams.exports, name)
 }
 
-// The first image of a search order that exports a name, and what its trie has of it.
+/// The first image of a search order that exports a name, and what its trie has of it.
 fn first_exporting<'a>(
     streams: &[ImageStreams<'a>],
     order: &[u32],
@@ -56,7 +56,7 @@ fn first_exporting<'a>(
     None
 }
 
-// The place of an offset export of image number `image`.
+/// The place of an offset export of image number `image`.
 fn export_place(segments: &[Segment<'_>], image: u32, offset: u64) -> Resolved
     requires { length segments.now < 2 ^ 32 }
     ensures { result ≡ spec.export_place segments.now image offset }
@@ -72,7 +72,7 @@ fn export_place(segments: &[Segment<'_>], image: u32, offset: u64) -> Resolved
     }
 }
 
-// Where an export of image number `number` leads.
+/// Where an export of image number `number` leads.
 fn target_step<'a>(segments: &[Segment<'_>], number: u32, found: Found<'a>) -> Step<'a>
     requires { length segments.now < 2 ^ 32 }
     ensures { step_seen result ≡ some_step segments.now number (target_found found.entry) }
@@ -89,14 +89,14 @@ fn target_step<'a>(segments: &[Segment<'_>], number: u32, found: Found<'a>) -> S
     }
 }
 
-// Does nothing; its contract tells what is true of each slice of bytes.
+/// Does nothing; its contract tells what is true of each slice of bytes.
 pub(crate) fn are_bytes(bytes: &[u8])
     ensures { (k : ℕ) → slice_index bytes.now k < 256 }
 {
     let _ = bytes;
 }
 
-// The same by the image.
+/// The same by the image.
 #[tactic(auto, using(macho_image::proofs::SoundSegments::few_segments))]
 fn image_step<'a>(image: &Image<'_>, number: u32, found: Found<'a>) -> Step<'a>
     ensures { step_seen result ≡ some_step image.now.segments number (target_found found.entry) }
@@ -106,7 +106,7 @@ fn image_step<'a>(image: &Image<'_>, number: u32, found: Found<'a>) -> Step<'a>
     target_step(&image.segments, number, found)
 }
 
-// What is found in a search order leads to.
+/// What is found in a search order leads to.
 fn found_step<'a>(images: &[Image<'_>], found: Option<(u32, Found<'a>)>) -> Step<'a>
     requires { IfSome found (λ f. f.0 < length images.now) }
     ensures { step_seen result ≡ spec.found_step images.now (found_seen found.entry) }
@@ -117,7 +117,7 @@ fn found_step<'a>(images: &[Image<'_>], found: Option<(u32, Found<'a>)>) -> Step
     }
 }
 
-// What an ordinal of an image and a name lead to.
+/// What an ordinal of an image and a name lead to.
 #[tactic(auto, unfolding(crate::specs::Resolves::step))]
 fn next_step<'s>(set: &Set<'s, '_>, image: u32, ordinal: u64, name: &[u8]) -> Step<'s>
     requires sound { IsSoundSet (set_of set.now) }
@@ -134,7 +134,7 @@ fn next_step<'s>(set: &Set<'s, '_>, image: u32, ordinal: u64, name: &[u8]) -> St
     }
 }
 
-// The name that a re-export goes on with.
+/// The name that a re-export goes on with.
 pub(crate) fn next_name<'n>(name: &'n [u8], own: &'n [u8]) -> &'n [u8]
     ensures { result.now ≡ spec.next_name name.entry.now own.entry.now }
 {

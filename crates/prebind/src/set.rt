@@ -32,7 +32,7 @@ pub struct Set<'s, 'a> {
     pub links: &'s Links,
 }
 
-// Types that workers may share and hand back.
+/// Types that workers may share and hand back.
 fn is_shared<T: Send + Sync>(_value: &T) {}
 
 impl<'a> ImageStreams<'a> {

@@ -35,7 +35,7 @@ fn files_of(alloc: Global, dylibs: &[Dylib]) -> Result<Vec<Vec<u8>>, Fail> {
     Ok(files)
 }
 
-// The words of the first image, found by an index of the set.
+/// The words of the first image, found by an index of the set.
 fn indexed_words<L: Ledger>(
     alloc: Global,
     set: &Set<'_, '_>,
@@ -60,8 +60,8 @@ fn indexed_words<L: Ledger>(
     )
 }
 
-// Whether words are found in the files of a set, or by an index of it; the last one is for a set whose steps are
-// known.
+/// Whether words are found in the files of a set, or by an index of it; the last one is for a set whose steps are
+/// known.
 #[derive(Clone, Copy)]
 enum Way {
     Files,
@@ -69,7 +69,7 @@ enum Way {
     Counted,
 }
 
-// The words of the first image, where its exports are accepted.
+/// The words of the first image, where its exports are accepted.
 fn first_words<L: Ledger>(
     alloc: Global,
     set: &Set<'_, '_>,
@@ -87,7 +87,7 @@ fn first_words<L: Ledger>(
     }
 }
 
-// The words of the first image of a set that is read.
+/// The words of the first image of a set that is read.
 fn first_of<L: Ledger>(
     alloc: Global,
     images: &[Image<'_>],
@@ -173,7 +173,7 @@ fn row_stands<L: Ledger>(
     Ok(())
 }
 
-// Each row, by the files and by an index.
+/// Each row, by the files and by an index.
 fn rows_stand<L: Ledger>(
     rt: &impl Abort,
     alloc: Global,
@@ -192,7 +192,7 @@ fn rows_stand<L: Ledger>(
     Ok(())
 }
 
-// The first row of re-exports, each resolution of which takes as many steps as its search order tells.
+/// The first row of re-exports, each resolution of which takes as many steps as its search order tells.
 fn counted_row_stands<L: Ledger>(rt: &impl Abort, alloc: Global, blank: Blank) -> Result<(), Fail>
     requires name { blank.name ≡ L.name }
     requires parts { blank.parts ≡ L.parts }

@@ -18,7 +18,7 @@ use macho_image::Location;
 use split_info::Reference;
 use std::alloc::Global;
 
-// The rule that a bind breaks whose symbol has this outcome.
+/// The rule that a bind breaks whose symbol has this outcome.
 fn outcome_fault(weak: bool, outcome: Resolved) -> Option<Rule>
     ensures { result ≡ rules.outcome_fault weak outcome }
 {
@@ -81,7 +81,7 @@ pub fn place_resolved(index: usize, bind: &Bind<'_>, outcome: Resolved) -> Resul
     }
 }
 
-// Puts words in the order of their addresses.
+/// Puts words in the order of their addresses.
 fn sort_words(words: &mut Vec<PlacedWord>) -> Result<(), NoMemory>
     ensures { OnOk result (spec.AreOrdered words.old.items words.new.items) }
 {

@@ -12,7 +12,7 @@ const POINTER: u64 = 8;
 /// `REBASE_TYPE_POINTER`, the only type that a 64-bit image has.
 const POINTER_TYPE: u8 = 1;
 
-// The numbers of the opcodes, the high four bits of the `REBASE_OPCODE_` constants.
+/// The numbers of the opcodes, the high four bits of the `REBASE_OPCODE_` constants.
 const DONE: u8 = 0;
 
 const SET_TYPE_IMM: u8 = 1;
@@ -45,7 +45,7 @@ pub(crate) enum Effect {
     Records { count: u64, step: u64 },
 }
 
-// An operand and the place behind it.
+/// An operand and the place behind it.
 #[tactic(auto, unfolding(crate::specs::Opcodes::operand_at))]
 fn operand(stream: &[u8], at: usize) -> Result<(u64, usize), Rule>
     requires { at ≤ length stream.now }
@@ -58,7 +58,7 @@ fn operand(stream: &[u8], at: usize) -> Result<(u64, usize), Rule>
     }
 }
 
-// So many words, each so many bytes behind the end of the one before it.
+/// So many words, each so many bytes behind the end of the one before it.
 fn records(count: u64, skip: u64) -> Effect
     ensures { result ≡ Effect.Records count (wrap (8 + skip)) }
 {
@@ -68,7 +68,7 @@ fn records(count: u64, skip: u64) -> Effect
     }
 }
 
-// What the opcode with a number and an immediate does, whose operands begin at a place, and the place behind them.
+/// What the opcode with a number and an immediate does, whose operands begin at a place, and the place behind them.
 #[tactic(auto, unfolding(crate::specs::Opcodes::opcode_with))]
 fn opcode_with(number: u8, immediate: u8, stream: &[u8], at: usize) -> Result<(Effect, usize), Rule>
     requires { at ≤ length stream.now }

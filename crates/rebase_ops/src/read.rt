@@ -11,7 +11,7 @@ use dsc_base::{Fault, Rule, Site};
 use macho_image::{Image, Location, first_close};
 use std::alloc::Global;
 
-// The locations in reading order.
+/// The locations in reading order.
 fn read_stream(alloc: Global, stream: &[u8], image: &Image<'_>) -> Result<Vec<Location>, Fault>
     ensures found { IfOk result (λ v. v.items ≡ records (spec.meaning image.now) spec.start (opcodes_of spelling stream.now)) }
     ensures cause { Refuses (reading_break (spec.meaning image.now) spec.start 0 (opcodes_of spelling stream.now)) result }

@@ -30,8 +30,8 @@ fn rule_of(fault: PlaceFault) -> Rule
     }
 }
 
-// The word at an offset in the segment that is set, or the rule that a record there breaks, after so many of
-// the stream.
+/// The word at an offset in the segment that is set, or the rule that a record there breaks, after so many of
+/// the stream.
 fn place(image: &Image<'_>, cursor: Cursor, offset: u64, before: usize) -> Result<Location, Rule>
     ensures { result ≡ unless (record_fault image.now cursor.segment offset before) (location image.now cursor.segment offset) }
 {
@@ -41,8 +41,8 @@ fn place(image: &Image<'_>, cursor: Cursor, offset: u64, before: usize) -> Resul
     }
 }
 
-// So many records, each a step behind the one before it. It ends at the first one that is refused,
-// so that what it takes is bounded by the records that are accepted, whatever the count.
+/// So many records, each a step behind the one before it. It ends at the first one that is refused,
+/// so that what it takes is bounded by the records that are accepted, whatever the count.
 fn record(
     image: &Image<'_>,
     cursor: Cursor,

@@ -12,11 +12,11 @@ use std::alloc::Global;
 use std::process::Abort;
 use std::test::Fail;
 
-// What is wanted of a stream: the addresses of its locations and the stream that is written for them, or the
-// rule that it breaks and where.
+/// What is wanted of a stream: the addresses of its locations and the stream that is written for them, or the
+/// rule that it breaks and where.
 type Wanted = Result<(&'static [u64], &'static [u8]), (u16, u64)>;
 
-// Pointers side by side.
+/// Pointers side by side.
 const FIFTEEN: [u64; 15] = [
     0x1010, 0x1018, 0x1020, 0x1028, 0x1030, 0x1038, 0x1040, 0x1048, 0x1050, 0x1058, 0x1060, 0x1068,
     0x1070, 0x1078, 0x1080,
@@ -27,7 +27,7 @@ const SIXTEEN: [u64; 16] = [
     0x1070, 0x1078, 0x1080, 0x1088,
 ];
 
-// Edits of the dylib, the place of its rebase stream, the stream, and what is wanted of it.
+/// Edits of the dylib, the place of its rebase stream, the stream, and what is wanted of it.
 const CASES: [(&[(usize, u32)], u32, &[u8], Wanted); 28] = [
     // one pointer
     (
@@ -159,7 +159,7 @@ const CASES: [(&[(usize, u32)], u32, &[u8], Wanted); 28] = [
     ),
 ];
 
-// The dylib with these edits and with this rebase stream at a place.
+/// The dylib with these edits and with this rebase stream at a place.
 fn file_with(
     alloc: Global,
     edits: &[(usize, u32)],
@@ -177,7 +177,7 @@ fn file_with(
     Ok(file)
 }
 
-// The locations have these addresses, in the second segment and its section, the second of all.
+/// The locations have these addresses, in the second segment and its section, the second of all.
 fn are_found(rt: &impl Abort, found: &[Location], addresses: &[u64]) {
     assert_eq!(rt; found.len(), addresses.len());
     for (location, address) in found.iter().zip(addresses) {
@@ -190,14 +190,14 @@ fn are_found(rt: &impl Abort, found: &[Location], addresses: &[u64]) {
     }
 }
 
-// Whether the locations lie in segments that an opcode has room for.
+/// Whether the locations lie in segments that an opcode has room for.
 fn are_low(found: &[Location]) -> bool
     ensures { result ≡ true → All (λ l. l.segment < 16) found.now }
 {
     found.iter().all(|l| l.segment < 16)
 }
 
-// The stream that is written for the locations.
+/// The stream that is written for the locations.
 fn is_written(
     rt: &impl Abort,
     alloc: Global,

@@ -14,7 +14,7 @@ const SET_POINTER_TYPE: u8 = 0x11;
 
 const DONE: u8 = 0;
 
-// Opcodes without their immediates.
+/// Opcodes without their immediates.
 const SET_SEGMENT_AND_OFFSET_ULEB: u8 = 0x20;
 
 const DO_REBASE_IMM_TIMES: u8 = 0x50;

@@ -41,7 +41,7 @@ impl<'a> Model for ImagePlan<'a> {
     ghost view = { λ p. record { copies = p.copies.items; edits = p.edits.items; header = p.header.items; header_at = p.header_at; text = p.text; writable = p.writable; fixed = p.fixed; words = p.words.items } };
 }
 
-// Types that workers may share and hand back.
+/// Types that workers may share and hand back.
 fn is_shared<T: Send + Sync>(_value: &T) {}
 
 impl<'a> Piece<'a> {

@@ -12,7 +12,7 @@ use std::sync::atomic::{AtomicU64, Ordering};
 use std::test::*;
 use std::thread::Threads;
 
-// Each image counts in 16 bits of its own.
+/// Each image counts in 16 bits of its own.
 #[derive(Drop)]
 struct CountingGate {
     entered: AtomicU64,
@@ -25,7 +25,7 @@ impl Gate for CountingGate {
     }
 }
 
-// Pieces in each span, a header over a part of the first, and edits over both.
+/// Pieces in each span, a header over a part of the first, and edits over both.
 fn first(alloc: Global) -> Result<ImagePlan<'static>, NoMemory>
     ensures sound { IfOk result IsSoundPlan }
     ensures text { IfOk result (λ p. p.text ≡ record { at = 0x1000; len = 8 }) }
@@ -75,7 +75,7 @@ fn first(alloc: Global) -> Result<ImagePlan<'static>, NoMemory>
     })
 }
 
-// Pieces over one another in the fixed span, a header over a piece and an edit over both, and no writable byte.
+/// Pieces over one another in the fixed span, a header over a piece and an edit over both, and no writable byte.
 fn second(alloc: Global) -> Result<ImagePlan<'static>, NoMemory>
     ensures sound { IfOk result IsSoundPlan }
     ensures text { IfOk result (λ p. p.text ≡ record { at = 0x1008; len = 12 }) }
@@ -116,7 +116,7 @@ fn second(alloc: Global) -> Result<ImagePlan<'static>, NoMemory>
     })
 }
 
-// A header and edits at the ends of the spans.
+/// A header and edits at the ends of the spans.
 fn third(alloc: Global) -> Result<ImagePlan<'static>, NoMemory>
     ensures sound { IfOk result IsSoundPlan }
     ensures text { IfOk result (λ p. p.text ≡ record { at = 0x1014; len = 4 }) }

@@ -5,7 +5,7 @@ use crate::plain::TEXT;
 use crate::{bytes_with, put_numbers};
 use std::alloc::{AllocError, Global};
 
-// `/a.dylib`: `__text` is 0x400 to 0xC00, `__data` is 0x1000 to 0x2000, and the linkedit is 0x40 bytes at 0x2000.
+/// `/a.dylib`: `__text` is 0x400 to 0xC00, `__data` is 0x1000 to 0x2000, and the linkedit is 0x40 bytes at 0x2000.
 const NUMBERS: [(usize, u32); 50] = [
     // mach_header_64
     (0x10, 0x6),

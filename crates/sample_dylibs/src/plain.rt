@@ -4,8 +4,8 @@ ghost use Rattle.std.specs.Prelude.{◌≡◌, length, IfOk};
 use crate::{bytes_with, put_numbers};
 use std::alloc::{AllocError, Global};
 
-// What all begin with: the header but for its commands and flags, and `__TEXT` of one page with `__text`
-// from 0x400 to 0xC00.
+/// What all begin with: the header but for its commands and flags, and `__TEXT` of one page with `__text`
+/// from 0x400 to 0xC00.
 pub(crate) const TEXT: [(usize, u32); 20] = [
     // mach_header_64
     (0x0, 0xfeedfacf),
@@ -32,7 +32,7 @@ pub(crate) const TEXT: [(usize, u32); 20] = [
     (0x98, 0x400),
 ];
 
-// `/a.dylib`: the linkedit is 0x40 bytes at 0x1000.
+/// `/a.dylib`: the linkedit is 0x40 bytes at 0x1000.
 const NUMBERS: [(usize, u32); 21] = [
     // mach_header_64
     (0x10, 0x3),

@@ -4,7 +4,7 @@ ghost use Rattle.std.specs.Prelude.{◌≡◌, length, IfOk};
 use crate::{plain_dylib, put_numbers};
 use std::alloc::{AllocError, Global};
 
-// `/s.dylib`: the linkedit is 0x9000 bytes at 0x1000, where symbols begin. The rest is the plain dylib's.
+/// `/s.dylib`: the linkedit is 0x9000 bytes at 0x1000, where symbols begin. The rest is the plain dylib's.
 const NUMBERS: [(usize, u32); 11] = [
     // mach_header_64
     (0x10, 0x5),

@@ -4,7 +4,7 @@ ghost use Rattle.std.specs.Prelude.{◌≡◌, length, IfOk};
 use crate::{plain_dylib, put_numbers};
 use std::alloc::{AllocError, Global};
 
-// `/usr/lib/libSystem.B.dylib`: `__text` is 0x800 to 0x820. The rest is the plain dylib's.
+/// `/usr/lib/libSystem.B.dylib`: `__text` is 0x800 to 0x820. The rest is the plain dylib's.
 const NUMBERS: [(usize, u32); 31] = [
     // mach_header_64
     (0x10, 0x4),

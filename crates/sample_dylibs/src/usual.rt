@@ -4,7 +4,7 @@ ghost use Rattle.std.specs.Prelude.{◌≡◌, length, IfOk};
 use crate::bytes_with;
 use std::alloc::{AllocError, Global};
 
-// `/usr/lib/libusual.dylib`, which needs `/usr/lib/libSystem.B.dylib`: sixteen commands, of which a cache keeps fourteen.
+/// `/usr/lib/libusual.dylib`, which needs `/usr/lib/libSystem.B.dylib`: sixteen commands, of which a cache keeps fourteen.
 const NUMBERS: [(usize, u32); 307] = [
     // mach_header_64
     (0x0, 0xfeedfacf),

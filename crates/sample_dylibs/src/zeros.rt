@@ -5,8 +5,8 @@ use crate::plain::TEXT;
 use crate::{bytes_with, put_numbers};
 use std::alloc::{AllocError, Global};
 
-// `/a.dylib`: `__data` is 0x1000 to 0x2000 and `__bss` follows, the linkedit is 0x40 bytes at file offset 0x2000.
-// The sizes of the data segment and of `__bss` and the address of the linkedit are a test's own.
+/// `/a.dylib`: `__data` is 0x1000 to 0x2000 and `__bss` follows, the linkedit is 0x40 bytes at file offset 0x2000.
+/// The sizes of the data segment and of `__bss` and the address of the linkedit are a test's own.
 const NUMBERS: [(usize, u32); 54] = [
     // mach_header_64
     (0x10, 0x6),

@@ -12,8 +12,8 @@ use std::thread::Threads;
 
 const JOBS: [u32; 4] = [1, 2, 7, 64];
 
-// A mask, how many bits it has if the information is made too, a start, extras and raw words with
-// their places; the chain words with their values, and the number and the place of what is wrong.
+/// A mask, how many bits it has if the information is made too, a start, extras and raw words with
+/// their places; the chain words with their values, and the number and the place of what is wrong.
 const CASES: [(
     u64,
     u32,
@@ -112,8 +112,8 @@ const CASES: [(
     ),
 ];
 
-// Bytes of data with a word in each eight, and bits of a delta; how many extras are needed, and
-// whether these are too many.
+/// Bytes of data with a word in each eight, and bits of a delta; how many extras are needed, and
+/// whether these are too many.
 const FULL: [(u64, u32, u64, bool); 4] = [
     (0x21000, 1, 0x4200, true),
     (0x21000, 2, 0, false),
@@ -138,7 +138,7 @@ fn data_with(alloc: Global, words: &[(usize, u64)]) -> Result<Vec<u8>, Fail>
     Ok(data)
 }
 
-// Slide information of one page, spelled and read back.
+/// Slide information of one page, spelled and read back.
 fn info_with(alloc: Global, mask: u64, start: u16, extras: &[u16]) -> Result<SlideInfo, Fail>
     requires { length extras.now < 2 ^ 30 }
     ensures run { IfOk result (λ i. IsRun i.mask) }
@@ -163,7 +163,7 @@ fn info_with(alloc: Global, mask: u64, start: u16, extras: &[u16]) -> Result<Sli
     Ok(info)
 }
 
-// Whether words are such as information can be made of.
+/// Whether words are such as information can be made of.
 fn are_words(words: &[u64], size: u64) -> bool
     requires { size ≤ 0x20000000 }
     ensures { result ≡ true → AreWords 0 words.now × AllBelow size words.now }
@@ -178,7 +178,7 @@ fn are_words(words: &[u64], size: u64) -> bool
     true
 }
 
-// Whether the numbers at the words have no bit of a mask.
+/// Whether the numbers at the words have no bit of a mask.
 fn are_outside(area: &[u8], words: &[u64], mask: u64) -> bool
     requires { length area.now ≤ 0x20000000 }
     ensures { result ≡ true → AreOutside mask area.now words.now }
@@ -194,7 +194,7 @@ fn are_outside(area: &[u8], words: &[u64], mask: u64) -> bool
     true
 }
 
-// The places of words, one after the other.
+/// The places of words, one after the other.
 fn places_of(alloc: Global, words: &[(usize, u64)]) -> Result<Vec<u64>, Fail> {
     let mut places = Vec::new(alloc);
     for (at, _value) in words {
@@ -205,7 +205,7 @@ fn places_of(alloc: Global, words: &[(usize, u64)]) -> Result<Vec<u64>, Fail> {
 
 fn is_shared<T: Send + Sync>(_value: &T) {}
 
-// Links the words, if their numbers have no bit of the mask.
+/// Links the words, if their numbers have no bit of the mask.
 fn link_with<R: Threads + Sync>(
     rt: &R,
     bytes: &mut [u8],
@@ -226,7 +226,7 @@ fn link_with<R: Threads + Sync>(
     true
 }
 
-// Whether the values become what is wanted, whatever the number of jobs.
+/// Whether the values become what is wanted, whatever the number of jobs.
 fn become_for_all<R: Threads + Sync>(
     rt: &R,
     alloc: Global,
@@ -258,7 +258,7 @@ fn copied(alloc: Global, bytes: &[u8]) -> Result<Vec<u8>, Fail>
     Ok(copy)
 }
 
-// Whether a row's words are made and written as it says.
+/// Whether a row's words are made and written as it says.
 fn is_written<R: Threads + Sync>(
     rt: &R,
     alloc: Global,
@@ -286,7 +286,7 @@ fn is_written<R: Threads + Sync>(
     become_for_all(rt, alloc, &values, &places, &info, &wanted)
 }
 
-// A word in each eight bytes.
+/// A word in each eight bytes.
 fn each_eight(alloc: Global, size: u64) -> Result<Vec<u64>, Fail>
     requires { size ≤ 0x20000000 }
 {
@@ -297,8 +297,8 @@ fn each_eight(alloc: Global, size: u64) -> Result<Vec<u64>, Fail>
     Ok(places)
 }
 
-// What becomes of data full of words: how many extras are needed, whether these are too many, and
-// whether the last one is marked and all numbers of jobs write the same.
+/// What becomes of data full of words: how many extras are needed, whether these are too many, and
+/// whether the last one is marked and all numbers of jobs write the same.
 fn fill<R: Threads + Sync>(
     rt: &R,
     alloc: Global,

@@ -43,7 +43,7 @@ pub(crate) fn from_section(image: &Image<'_>, number: u64) -> Option<Extent>
     section_numbered(&image.sections, number)
 }
 
-// The Mach header, as a section that is all of a segment.
+/// The Mach header, as a section that is all of a segment.
 fn segment_section(segments: &[Segment<'_>], number: u32) -> Option<Extent>
     ensures { result ≡ spec.segment_section segments.now number }
 {

@@ -50,7 +50,7 @@ fn read_stream(
     Ok(found)
 }
 
-// The references in reading order, before it is known whether they overlap.
+/// The references in reading order, before it is known whether they overlap.
 #[tactic(auto, unfolding(crate::specs::Split::spelled_of, crate::specs::Split::references_of))]
 fn read_references(
     alloc: Global,

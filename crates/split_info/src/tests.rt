@@ -10,13 +10,13 @@ use std::alloc::Global;
 use std::process::Abort;
 use std::test::Fail;
 
-// References by kind, address and segment, and the section, segment and offset to which they lead.
+/// References by kind, address and segment, and the section, segment and offset to which they lead.
 type Led = (RefKind, u64, u32, u32, u32, u64);
 
-// What is wanted of a stream: its references, or the rule that it breaks and where.
+/// What is wanted of a stream: its references, or the rule that it breaks and where.
 type Wanted = Result<&'static [Led], (u16, u64)>;
 
-// The places of rebases and of binds, a stream, and what is wanted of it.
+/// The places of rebases and of binds, a stream, and what is wanted of it.
 type Case = (&'static [u64], &'static [u64], &'static [u8], Wanted);
 
 static CASES: [Case; 36] = [
@@ -260,7 +260,7 @@ fn put_numbers(file: &mut Vec<u8>, numbers: &[u32]) -> Result<(), Fail> {
     Ok(())
 }
 
-// A segment of one page: its name, its start, its protection, and where its section is.
+/// A segment of one page: its name, its start, its protection, and where its section is.
 type Row = (&'static [u8; 16], u32, u32, u32, u32);
 
 const SEGMENTS: [Row; 2] = [
@@ -281,7 +281,7 @@ fn put_segment(file: &mut Vec<u8>, row: &Row) -> Result<(), Fail> {
     put_numbers(file, &[section, 0, size, 0, section, 0, 0, 0, 0, 0, 0, 0])
 }
 
-// The dylib of these segments, `__LINKEDIT` behind them.
+/// The dylib of these segments, `__LINKEDIT` behind them.
 fn file_of(alloc: Global, rows: &[Row]) -> Result<Vec<u8>, Fail> {
     let count = u32::try_from(rows.len()).ok().ok_or("few segments")?;
     let commands = count.wrapping_add(2);
@@ -304,7 +304,7 @@ fn file_of(alloc: Global, rows: &[Row]) -> Result<Vec<u8>, Fail> {
     Ok(file)
 }
 
-// Words of the data section.
+/// Words of the data section.
 fn words(alloc: Global, addresses: &[u64]) -> Result<Vec<Location>, Fail> {
     let mut places = Vec::new(alloc);
     for address in addresses {
@@ -317,7 +317,7 @@ fn words(alloc: Global, addresses: &[u64]) -> Result<Vec<Location>, Fail> {
     Ok(places)
 }
 
-// The same in the order of their addresses.
+/// The same in the order of their addresses.
 fn sorted_words(alloc: Global, addresses: &[u64]) -> Result<Vec<Location>, Fail>
     ensures { IfOk result (λ v. IsNonDecreasingBy (λ l. l.address) v.items) }
 {
@@ -372,7 +372,7 @@ fn streams(rt: HostRuntime) -> Result<(), Fail> {
     Ok(())
 }
 
-// Without a stream there are no references, and there may be one segment that moves.
+/// Without a stream there are no references, and there may be one segment that moves.
 #[test]
 fn no_stream(rt: HostRuntime) -> Result<(), Fail> {
     let alloc = rt.alloc();

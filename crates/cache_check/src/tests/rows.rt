@@ -7,7 +7,7 @@ use std::test::*;
 
 const SIZE: usize = 0x5000;
 
-// The numbers of four bytes in the cache, each with its place; all others are 0.
+/// The numbers of four bytes in the cache, each with its place; all others are 0.
 const CACHE: [(usize, u32); 97] = [
     // "dyld_v1  x86_64", the mapping table and the image table with their counts
     (0x0, 0x646c7964),
@@ -116,7 +116,7 @@ const CACHE: [(usize, u32); 97] = [
     (0x2014, 0x7fff),
 ];
 
-// Slide information: version 2, pages of 4096 bytes, one start and no extras, the mask, and the start.
+/// Slide information: version 2, pages of 4096 bytes, one start and no extras, the mask, and the start.
 const SLIDES: [(usize, u32); 7] = [
     (0x3000, 2),
     (0x3004, 0x1000),
@@ -127,10 +127,10 @@ const SLIDES: [(usize, u32); 7] = [
     (0x3028, 4),
 ];
 
-// What makes the dylib another one, "/b.dylib".
+/// What makes the dylib another one, "/b.dylib".
 const OTHER: &[(usize, u32)] = &[(0x1b0, 0x642e622f)];
 
-// What makes its word at 0x1018 bound to a symbol of "/z.dylib", which may be missing, and so the number 0.
+/// What makes its word at 0x1018 bound to a symbol of "/z.dylib", which may be missing, and so the number 0.
 const WEAK: &[(usize, u32)] = &[
     (0x10, 0x7),
     (0x14, 0x208),
@@ -148,7 +148,7 @@ const WEAK: &[(usize, u32)] = &[
     (0x2018, 0x90),
 ];
 
-// What makes the four bytes at 0x800 a difference to `__data`.
+/// What makes the four bytes at 0x800 a difference to `__data`.
 const DELTA: &[(usize, u32)] = &[
     (0x800, 0x80c),
     (0x1fc, 0xb),
@@ -157,7 +157,7 @@ const DELTA: &[(usize, u32)] = &[
     (0x2010, 0x88001),
 ];
 
-// What makes it export `_b` 0x800 bytes into `__DATA`.
+/// What makes it export `_b` 0x800 bytes into `__DATA`.
 const EXPORT: &[(usize, u32)] = &[
     (0x1e8, 0x2010),
     (0x1ec, 0xb),
@@ -166,7 +166,7 @@ const EXPORT: &[(usize, u32)] = &[
     (0x2018, 0x3080),
 ];
 
-// What is told, but for names and exports.
+/// What is told, but for names and exports.
 #[derive(Clone, Copy, Debug, PartialEq, Eq)]
 enum Told {
     Agrees,
@@ -182,7 +182,7 @@ enum Told {
 
 use Seen::{Address, Number};
 
-// Edits of the cache, the files by what they are besides the dylib, and what is told.
+/// Edits of the cache, the files by what they are besides the dylib, and what is told.
 const CASES: [(&[(usize, u32)], &[&[(usize, u32)]], Told); 26] = [
     // the dylib itself, another one, and one more
     (&[], &[&[]], Told::Agrees),

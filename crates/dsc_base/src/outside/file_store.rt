@@ -71,7 +71,7 @@ impl<R: Files + Drop> Store for FileStore<R> {
     }
 }
 
-// At most one byte past the limit is read.
+/// At most one byte past the limit is read.
 fn read_file<R: Files>(rt: &R, alloc: Global, name: &str, limit: u64) -> Result<Vec<u8>, GetFault>
     ensures { IfOk result (λ bytes. length bytes.items ≤ limit) }
 {
@@ -101,7 +101,7 @@ fn get_fault(error: io::Error) -> GetFault {
     }
 }
 
-// Want of memory is told as such only before the file is begun.
+/// Want of memory is told as such only before the file is begun.
 fn write_file<R: Files>(rt: &R, name: &str, bytes: &[u8]) -> Result<(), PutFault> {
     if let Some((folder, _)) = name.rsplit_once('/') {
         fs::create_dir_all(rt, folder).map_err(put_fault)?;

@@ -65,7 +65,7 @@ impl MemStore {
         self.files.insert(self.alloc, name, bytes)
     }
 
-    // Puts the bytes there and counts the call.
+    /// Puts the bytes there and counts the call.
     fn write(&mut self, name: &str, bytes: &[u8]) -> Result<(), NoMemory>
         ensures ok { OnOk result (self.new ≡ record (called self.old) { files = insert self.old.files name.now bytes.now }) }
         ensures err { OnErr result (self.new ≡ self.old) }

@@ -7,7 +7,7 @@ use std::io::Write;
 use std::test::Fail;
 use std::{env, fs, process};
 
-// A writer that takes two bytes at a time, and none once its room is used up.
+/// A writer that takes two bytes at a time, and none once its room is used up.
 #[derive(Drop)]
 struct SlowWriter {
     room: usize,
@@ -25,7 +25,7 @@ impl Write for SlowWriter {
     }
 }
 
-// The name of a file of this process under the folder for temporary ones.
+/// The name of a file of this process under the folder for temporary ones.
 fn temporary(rt: &HostRuntime, alloc: Global, name: &str) -> Result<String, Fail> {
     let temp = env::temp_dir(rt)?;
     let name = format!(in alloc;
@@ -179,7 +179,7 @@ fn names_and_texts_are_read_back(rt: HostRuntime) -> Result<(), Fail> {
 
 fn is_shared<T: Send + Sync>() {}
 
-// Workers hand names and faults to one another.
+/// Workers hand names and faults to one another.
 #[test]
 fn names_and_faults_are_shared() {
     is_shared::<Name>();

@@ -53,8 +53,8 @@ impl<W: Write + Drop> Sink for WriterSink<W> {
     }
 }
 
-// Writes the bytes piece by piece, and says whether all were taken. A write that was interrupted is
-// tried again.
+/// Writes the bytes piece by piece, and says whether all were taken. A write that was interrupted is
+/// tried again.
 fn write_whole<W: Write>(writer: &mut W, bytes: &[u8]) -> bool
     ensures whole { OnTrue result (Appends (W.contents writer.old) (W.contents writer.new) bytes.now) }
     ensures part { (n : ℕ) × Appends (W.contents writer.old) (W.contents writer.new) (take n bytes.now) }

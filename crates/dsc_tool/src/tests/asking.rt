@@ -5,7 +5,7 @@ use dsc_base::{GetFault, MemStore, PutFault, Store};
 use std::alloc::Global;
 use std::test::Fail;
 
-// A store in memory that notes each name that is asked for, and each that is put, with a sign before it.
+/// A store in memory that notes each name that is asked for, and each that is put, with a sign before it.
 #[derive(Drop)]
 struct NotingStore {
     inner: MemStore,

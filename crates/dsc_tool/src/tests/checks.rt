@@ -8,7 +8,7 @@ use std::process::Abort;
 use std::test::Fail;
 use std::thread::Threads;
 
-// What is set in the cache of A, the words behind, how the run ends and what it prints.
+/// What is set in the cache of A, the words behind, how the run ends and what it prints.
 #[derive(Drop, Clone, Copy)]
 pub(super) struct Checked<'a> {
     pub(super) cache: Patches<'a>,
@@ -80,7 +80,7 @@ const CHECKED: [Checked<'static>; 8] = [
     },
 ];
 
-// A and B, and as d the cache of A, in which bytes are set.
+/// A and B, and as d the cache of A, in which bytes are set.
 fn with_cache<R: Threads + Sync>(
     rt: &R,
     alloc: Global,
@@ -94,7 +94,7 @@ fn with_cache<R: Threads + Sync>(
     Ok(store)
 }
 
-// A run of the row ends and prints as it says.
+/// A run of the row ends and prints as it says.
 pub(super) fn is_checked<R: Threads + Sync + Abort>(
     rt: &R,
     alloc: Global,

@@ -4,12 +4,12 @@ ghost use Rattle.std.specs.Prelude.{◌≤◌};
 use sample_dylibs::{put_numbers, zeros_dylib};
 use std::alloc::{AllocError, Global};
 
-// A dylib of two segments and an install name.
+/// A dylib of two segments and an install name.
 pub(super) fn plain_dylib(alloc: Global) -> Result<Vec<u8>, AllocError> {
     sample_dylibs::plain_dylib(alloc, 0x1040)
 }
 
-// A dylib with a data segment of so many bytes, one rebase in it, and no references.
+/// A dylib with a data segment of so many bytes, one rebase in it, and no references.
 pub(super) fn data_dylib(alloc: Global, size: u32) -> Result<Vec<u8>, AllocError>
     requires { (0x1000 ≤ size) × (size ≤ 0x10000) }
 {
@@ -33,7 +33,7 @@ pub(super) fn data_dylib(alloc: Global, size: u32) -> Result<Vec<u8>, AllocError
     Ok(file)
 }
 
-// A dylib with a data segment of so many bytes, of which all but the first page are zeros that aren't in the file.
+/// A dylib with a data segment of so many bytes, of which all but the first page are zeros that aren't in the file.
 pub(super) fn large_dylib(alloc: Global, data_size: u32) -> Result<Vec<u8>, AllocError>
     requires { data_size ≤ 0x4000_0000 }
 {

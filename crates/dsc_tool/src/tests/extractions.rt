@@ -70,8 +70,8 @@ const EXTRACTED: [Checked<'static>; 8] = [
     },
 ];
 
-// The file of A by itself: where text, data and linkedit are, the linkedit's place and size in the file, the
-// pointer, and its rebase.
+/// The file of A by itself: where text, data and linkedit are, the linkedit's place and size in the file, the
+/// pointer, and its rebase.
 const ALONE: Patches<'static> = &[
     (0x38, b"\0\x10\0\x20\xFF\x7F\0\0"),
     (0xD0, b"\0\x20\0\x20\xFF\x7F\0\0"),
@@ -81,7 +81,7 @@ const ALONE: Patches<'static> = &[
     (0x2000, b"\x11\x21\x10\x51\0"),
 ];
 
-// The file of A beside B, to whose export its lazy pointer is bound: no rebase, and the lazy stream.
+/// The file of A beside B, to whose export its lazy pointer is bound: no rebase, and the lazy stream.
 const BOUND: Patches<'static> = &[
     (0x1CC, b"\0\0\0\0"),
     (0x1E0, b"\0\x20\0\0\x09\0\0\0"),
@@ -89,7 +89,7 @@ const BOUND: Patches<'static> = &[
     (0x2000, b"\x71\x10\x11\x40_f\0\x90\0"),
 ];
 
-// The file of the image with data is put at its path behind the prefix, also where that is the cache's own name.
+/// The file of the image with data is put at its path behind the prefix, also where that is the cache's own name.
 fn one_is_extracted<R: Threads + Sync + Abort>(rt: &R, alloc: Global) -> Result<(), Fail> {
     let mut store = two_dylibs(alloc, &[], &[])?;
     run_line(rt, alloc, "build /a.dylib A", &mut store, 99, 99)?;
@@ -104,7 +104,7 @@ fn one_is_extracted<R: Threads + Sync + Abort>(rt: &R, alloc: Global) -> Result<
     Ok(())
 }
 
-// Those of two images, where the put of the second one's fails after some bytes, and where it doesn't.
+/// Those of two images, where the put of the second one's fails after some bytes, and where it doesn't.
 fn two_are_extracted<R: Threads + Sync + Abort>(rt: &R, alloc: Global) -> Result<(), Fail> {
     let mut store = two_dylibs(alloc, &[NEEDS_B, BINDS_F], EXPORTS_F)?;
     run_line(rt, alloc, "build c A B", &mut store, 99, 99)?;

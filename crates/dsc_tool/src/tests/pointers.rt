@@ -7,8 +7,8 @@ use std::process::Abort;
 use std::test::Fail;
 use std::thread::Threads;
 
-// What is built: numbers of four bytes that are set in the dylib with data, the words, the line that is printed,
-// and numbers of 8 bytes in the cache.
+/// What is built: numbers of four bytes that are set in the dylib with data, the words, the line that is printed,
+/// and numbers of 8 bytes in the cache.
 type Built<'a> = (&'a [(usize, u32)], &'a str, &'a str, &'a [(usize, u64)]);
 
 const BUILT: [Built<'static>; 3] = [
@@ -54,8 +54,8 @@ const BUILT: [Built<'static>; 3] = [
     ),
 ];
 
-// The cache that a line makes of the dylib with so many bytes of data, in which these numbers are set, and of a
-// second one with a page of data, after it has printed what is wanted.
+/// The cache that a line makes of the dylib with so many bytes of data, in which these numbers are set, and of a
+/// second one with a page of data, after it has printed what is wanted.
 fn cache_of<R: Threads + Sync + Abort>(
     rt: &R,
     alloc: Global,
@@ -73,7 +73,7 @@ fn cache_of<R: Threads + Sync + Abort>(
     Ok(store.get(alloc, "c", 0x7000)?)
 }
 
-// These numbers stand in the cache.
+/// These numbers stand in the cache.
 fn has_numbers<R: Abort>(rt: &R, cache: &[u8], numbers: &[(usize, u64)]) {
     for (at, want) in numbers {
         assert_eq!(rt; read_u64(cache, *at), Some(*want), "at {at:x}");
@@ -107,8 +107,8 @@ fn pointers_move_with_what_they_lead_to(rt: HostRuntime) -> Result<(), Fail> {
     Ok(())
 }
 
-// Slides one page of data as a loader does: by the start of the page, each word leads to the next one by its
-// highest 16 bits, in units of four bytes, and the others are its value.
+/// Slides one page of data as a loader does: by the start of the page, each word leads to the next one by its
+/// highest 16 bits, in units of four bytes, and the others are its value.
 fn slide_page(page: &mut [u8], start: u64, slide: u64) {
     let mut at = start.wrapping_mul(4) as usize;
     for _ in 0..1024 {
@@ -129,7 +129,7 @@ fn slide_page(page: &mut [u8], start: u64, slide: u64) {
     }
 }
 
-// A number of 8 bytes, where it lies inside.
+/// A number of 8 bytes, where it lies inside.
 fn put_both(bytes: &mut [u8], at: usize, value: u64) {
     if at < bytes.len() && bytes.len() - at >= 8 {
         put_u32(bytes, at, (value & 0xFFFF_FFFF) as u32);
@@ -137,8 +137,8 @@ fn put_both(bytes: &mut [u8], at: usize, value: u64) {
     }
 }
 
-// The page of data of the cache, as it is mapped at a slide: the pointer has the number that is wanted, and all
-// other bytes are the file's.
+/// The page of data of the cache, as it is mapped at a slide: the pointer has the number that is wanted, and all
+/// other bytes are the file's.
 fn is_mapped<R: Abort>(
     rt: &R,
     alloc: Global,

@@ -1,6 +1,6 @@
 // Numbers of four bytes that are set in the dylib with data, each with its place, and what is said of the file.
 
-// A second install name behind the other commands.
+/// A second install name behind the other commands.
 const SECOND_NAME: [(usize, u32); 7] = [
     (0x10, 7),
     (0x14, 0x208),
@@ -11,7 +11,7 @@ const SECOND_NAME: [(usize, u32); 7] = [
     (0x21C, 0x6269_6C79),
 ];
 
-// With how many bytes of the file there are.
+/// With how many bytes of the file there are.
 pub(super) const REFUSED: [(&[(usize, u32)], usize, &str); 10] = [
     (&[], 0x100, "6 CommandShape image 0 at 0x14"),
     (&[], 0x200, "10 SegmentShape image 0 at 0x20"),

@@ -7,7 +7,7 @@ use std::process::Abort;
 use std::test::Fail;
 use std::thread::Threads;
 
-// Bytes that are set in a file, each with their place.
+/// Bytes that are set in a file, each with their place.
 pub(super) type Patches<'a> = &'a [(usize, &'a [u8])];
 
 // ---- commands, in the dylib with data: the first dependency, streams of LC_DYLD_INFO_ONLY, and split-segment
@@ -34,7 +34,7 @@ const NEEDS_Z_WEAKLY: Patches<'static> = &[
     (0x218, b"/z.dylib"),
 ];
 
-// `_f` at 0x500, `_d` at 0x1010, and `_k` with the value 0x1234.
+/// `_f` at 0x500, `_d` at 0x1010, and `_k` with the value 0x1234.
 pub(super) const EXPORTS_F: Patches<'static> = &[
     (0x1E8, b"\x10\x20\0\0\x0B\0\0\0"),
     (0x2010, b"\0\x01_f\0\x06\x03\0\x80\x0A\0"),
@@ -50,7 +50,7 @@ const EXPORTS_K: Patches<'static> = &[
     (0x2010, b"\0\x01_k\0\x06\x03\x02\xB4\x24\0"),
 ];
 
-// A lazy pointer at 0x10 of the data, bound to `_f` of the first dependency; the same, and a second one at 0x18.
+/// A lazy pointer at 0x10 of the data, bound to `_f` of the first dependency; the same, and a second one at 0x18.
 pub(super) const BINDS_F: Patches<'static> = &[
     (0x1E0, b"\x10\x20\0\0\x09\0\0\0"),
     (0x1010, b"\x40\x04"),
@@ -68,7 +68,7 @@ const BINDS_ACROSS_A_REBASE: Patches<'static> = &[
     (0x2010, b"\x71\x14\x11\x40_f\0\x90\0"),
 ];
 
-// A pointer at 0x18 of the data, bound to `_g`, weakly or not, and to one byte before `_k`.
+/// A pointer at 0x18 of the data, bound to `_g`, weakly or not, and to one byte before `_k`.
 const BINDS_G_WEAKLY: Patches<'static> = &[
     (0x1D0, b"\x10\x20\0\0\x0A\0\0\0"),
     (0x2010, b"\x11\x41_g\0\x51\x71\x18\x90\0"),
@@ -84,8 +84,8 @@ const BINDS_BEFORE_K: Patches<'static> = &[
     (0x2010, b"\x11\x40_k\0\x60\x7F\x71\x18\x90\0"),
 ];
 
-// A difference of 4 bytes at 0x800 to 0x10 of the data, alone and with one of 8 bytes behind it; an offset from
-// the header; and a pointer to the end of a text section of 0xC00 bytes.
+/// A difference of 4 bytes at 0x800 to 0x10 of the data, alone and with one of 8 bytes behind it; an offset from
+/// the header; and a pointer to the end of a text section of 0xC00 bytes.
 const DELTA: Patches<'static> = &[
     (0x1FC, b"\x0B"),
     (0x2008, b"\x7F\x01\x01\x02\x01\x10\x01\x03\x01\x80\x08"),
@@ -215,7 +215,7 @@ const BUILT: [Built<'static>; 10] = [
     },
 ];
 
-// What is set in A, and the rule that it breaks, beside a B that exports nothing.
+/// What is set in A, and the rule that it breaks, beside a B that exports nothing.
 const BROKEN: [(&[Patches<'static>], &str); 7] = [
     (
         &[&[
@@ -241,7 +241,7 @@ const BROKEN: [(&[Patches<'static>], &str); 7] = [
     ),
 ];
 
-// Sets the bytes where they lie inside.
+/// Sets the bytes where they lie inside.
 pub(super) fn set_bytes(file: &mut [u8], patches: Patches<'_>) {
     for (at, bytes) in patches {
         if *at <= file.len() && file.len() - *at >= bytes.len() {
@@ -250,7 +250,7 @@ pub(super) fn set_bytes(file: &mut [u8], patches: Patches<'_>) {
     }
 }
 
-// These bytes stand in the cache.
+/// These bytes stand in the cache.
 pub(super) fn has_bytes<R: Abort>(rt: &R, cache: &[u8], wanted: Patches<'_>) {
     for (at, bytes) in wanted {
         let found = cache.get(*at..at.saturating_add(bytes.len()));
@@ -258,7 +258,7 @@ pub(super) fn has_bytes<R: Abort>(rt: &R, cache: &[u8], wanted: Patches<'_>) {
     }
 }
 
-// A store with A, in which bytes are set, and B.
+/// A store with A, in which bytes are set, and B.
 pub(super) fn two_dylibs(
     alloc: Global,
     own: &[Patches<'_>],

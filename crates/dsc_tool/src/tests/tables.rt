@@ -10,7 +10,7 @@ use std::test::Fail;
 
 // ---- symbols, in the plain dylib
 
-// LC_SYMTAB with `_a` of the first group and `_b` of the second, their names, and LC_DYSYMTAB.
+/// LC_SYMTAB with `_a` of the first group and `_b` of the second, their names, and LC_DYSYMTAB.
 const SYMBOLS: Patches<'static> = &[
     (0x10, b"\x05"),
     (0x14, b"\x70\x01"),
@@ -28,7 +28,7 @@ const SYMBOLS: Patches<'static> = &[
     (0x1020, b"\0_a\0_b\0"),
 ];
 
-// The same with an entry for a debugger before both.
+/// The same with an entry for a debugger before both.
 const SYMBOLS_WITH_A_STAB: Patches<'static> = &[
     (0x134, b"\x03\0\0\0\x30"),
     (0x148, b"\0\0\0\0\x02\0\0\0\x02\0\0\0\x01\0\0\0\x03\0\0\0"),
@@ -38,7 +38,7 @@ const SYMBOLS_WITH_A_STAB: Patches<'static> = &[
     (0x1030, b"\0_a\0_b\0"),
 ];
 
-// The merged linkedit: both symbols, and their names.
+/// The merged linkedit: both symbols, and their names.
 const MERGED: Patches<'static> = &[
     (
         0x3000,
@@ -79,8 +79,8 @@ fn symbols_are_merged(rt: HostRuntime) -> Result<(), Fail> {
 
 // ---- a dylib as a usual linker makes it
 
-// Fourteen commands; pointers by their new places, linked with steps of 8, 8 and 24 bytes: the binder's, two of
-// constants, the lazy one and one of data, beside a number; and differences and offsets of the code by where both ends go.
+/// Fourteen commands; pointers by their new places, linked with steps of 8, 8 and 24 bytes: the binder's, two of
+/// constants, the lazy one and one of data, beside a number; and differences and offsets of the code by where both ends go.
 const USUAL: Patches<'static> = &[
     (0x1010, b"\x0E\0\0\0"),
     (0x2003, b"\x01\x30\0\0"),
@@ -97,7 +97,7 @@ const USUAL: Patches<'static> = &[
     (0x5018, b"\x10\x60\0\x20\xFF\x7F\0\0"),
 ];
 
-// Where its file and that of the system are put.
+/// Where its file and that of the system are put.
 const USUAL_NAMES: [&str; 2] = [
     "out/usr/lib/libusual.dylib",
     "out/usr/lib/libSystem.B.dylib",

@@ -9,7 +9,7 @@ use std::process::Abort;
 use std::test::Fail;
 use std::thread::Threads;
 
-// How the line of each trial begins.
+/// How the line of each trial begins.
 const TRIALS: [(&str, &str); 6] = [
     ("trial 5 1", "trial: 1 images, 120 words, span 0xb000, sum "),
     ("trial 5 40", "trial: 40 images, 4800 words, span 0x"),
@@ -52,7 +52,7 @@ fn trials_are_told(rt: HostRuntime) -> Result<(), Fail> {
     Ok(())
 }
 
-// The line of `trial 5 40`, by the cache that `build` puts of the same files.
+/// The line of `trial 5 40`, by the cache that `build` puts of the same files.
 fn line_of_forty<R: Threads + Sync + Abort>(rt: &R, alloc: Global) -> Result<String, Fail> {
     let shape = Shape {
         pages: 4,
@@ -79,7 +79,7 @@ fn line_of_forty<R: Threads + Sync + Abort>(rt: &R, alloc: Global) -> Result<Str
     Ok(format!(in alloc; "trial: 40 images, 4800 words, span 0x{span:x}, sum {sum}\n")?)
 }
 
-// Seeds, how many dylibs, and their shapes, of which none breaks a rule: the least, the fullest, and others.
+/// Seeds, how many dylibs, and their shapes, of which none breaks a rule: the least, the fullest, and others.
 const ACCEPTED: [(u64, u32, u32, u32, u32); 12] = [
     (0, 1, 1, 0, 0),
     (1, 2, 1, 1, 0),
@@ -113,7 +113,7 @@ fn generated_dylibs_are_accepted(rt: HostRuntime) -> Result<(), Fail> {
     Ok(())
 }
 
-// Whether `build` accepts the dylibs that are generated, of a shape within the limits of one.
+/// Whether `build` accepts the dylibs that are generated, of a shape within the limits of one.
 fn is_accepted<R: Threads + Sync>(
     rt: &R,
     alloc: Global,

@@ -66,7 +66,7 @@ fn words_that_are_no_command_are_told(rt: HostRuntime) -> Result<(), Fail> {
     Ok(())
 }
 
-// Commands whose first input isn't there.
+/// Commands whose first input isn't there.
 #[test]
 fn words_that_are_a_command_are_read(rt: HostRuntime) -> Result<(), Fail> {
     let alloc = rt.alloc();
@@ -118,7 +118,7 @@ fn up_to_4096_inputs_are_taken(rt: HostRuntime) -> Result<(), Fail> {
     Ok(())
 }
 
-// Names of any text are taken as they are.
+/// Names of any text are taken as they are.
 #[test]
 fn names_are_taken_as_they_are(rt: HostRuntime) -> Result<(), Fail> {
     let alloc = rt.alloc();

@@ -2,7 +2,7 @@
 
 pub(super) const SIZE: usize = 0x5000;
 
-// The numbers of four bytes in the file, each with its place; all others are 0.
+/// The numbers of four bytes in the file, each with its place; all others are 0.
 pub(super) const NUMBERS: [(usize, u32); 98] = [
     // "dyld_v1  x86_64", the mapping table and the image table with their counts
     (0x0, 0x646c7964),
@@ -113,12 +113,12 @@ pub(super) const NUMBERS: [(usize, u32); 98] = [
     (0x3010, 42),
 ];
 
-// The mask, and the start of the page's chain.
+/// The mask, and the start of the page's chain.
 pub(super) const SLIDES: [(usize, u32); 2] = [(0x301c, 0xffff0000), (0x3028, 4)];
 
 pub(super) type Edits = &'static [(usize, u32)];
 
-// Changes, and the number of what is found with its image and place; nothing is 0.
+/// Changes, and the number of what is found with its image and place; nothing is 0.
 pub(super) const CASES: [(Edits, u16, u32, u64); 15] = [
     (&[], 0, 0, 0),
     // a chain that leaves its page

@@ -2,7 +2,7 @@
 // aren't those of the cache's segments.
 use super::cases::Edits;
 
-// From here to there are the bytes of the image's segments in the cache.
+/// From here to there are the bytes of the image's segments in the cache.
 pub(super) const BODIES: (usize, usize) = (0x1000, 0x3000);
 
 pub(super) const FILES: [(Edits, usize, Edits); 3] = [

@@ -7,7 +7,7 @@ use crate::bytes::are_bytes;
 use crate::{Location, Segment};
 use dsc_base::{get_u64, read_u64};
 
-// The number of up to 8 bytes from a place that is inside, as if zeros followed.
+/// The number of up to 8 bytes from a place that is inside, as if zeros followed.
 fn number_at_end(bytes: &[u8], at: usize) -> u64
     requires { at ≤ length bytes.now }
     ensures { result ≡ number_at 8 bytes.now at }

@@ -65,7 +65,7 @@ fn word_fault(address: u64, before: usize) -> Option<PlaceFault>
     }
 }
 
-// The end of so many bytes, which may be 2^64 and more.
+/// The end of so many bytes, which may be 2^64 and more.
 fn end_of(start: u64, size: u64) -> u128
     ensures { result ≡ start + size }
 {
@@ -108,7 +108,7 @@ pub fn section_around(sections: &[Section], segment: u32, address: u64, width: u
     }
 }
 
-// The word at an offset in the segment of this number, or why a record there is refused.
+/// The word at an offset in the segment of this number, or why a record there is refused.
 fn locate_in(
     sections: &[Section],
     number: u32,

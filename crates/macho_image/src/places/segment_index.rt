@@ -17,7 +17,7 @@ pub struct Inside {
     pub distance: u64,
 }
 
-// A segment that has addresses.
+/// A segment that has addresses.
 #[derive(Clone, Copy)]
 struct Entry {
     segment: u32,
@@ -44,7 +44,7 @@ impl Model for SegmentIndex {
     ghost invariant = { λ i. AllPairs IsBefore i.entries.items };
 }
 
-// The segments that have addresses, in command order.
+/// The segments that have addresses, in command order.
 fn entries(alloc: Global, segments: &[Segment<'_>]) -> Result<Vec<Entry>, NoMemory>
     requires { length segments.now < 2 ^ 32 }
     ensures { IfOk result (λ v. v.items ≡ spec.entries_from 0 segments.now) }

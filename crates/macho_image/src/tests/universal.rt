@@ -4,8 +4,8 @@ use crate::pick_slice;
 use sample_dylibs::bytes_with;
 use std::test::*;
 
-// The magic of a universal file and of a dylib, and the two processors, as little-endian numbers of the
-// bytes that stand there.
+/// The magic of a universal file and of a dylib, and the two processors, as little-endian numbers of the
+/// bytes that stand there.
 const FAT: u32 = 0xbeba_feca;
 
 const DYLIB: u32 = 0xfeed_facf;
@@ -14,8 +14,8 @@ const I386: u32 = 0x0700_0000;
 
 const X86_64: u32 = 0x0700_0001;
 
-// A file's numbers of four bytes, each with its place, and its length; and what is picked: the number of
-// the rule that is broken, or 0, and the place and the length of the slice.
+/// A file's numbers of four bytes, each with its place, and its length; and what is picked: the number of
+/// the rule that is broken, or 0, and the place and the length of the slice.
 const FILES: [(&[(usize, u32)], usize, (u16, u64, u64)); 14] = [
     // another file, whole
     (&[(0, DYLIB)], 0x40, (0, 0, 0x40)),

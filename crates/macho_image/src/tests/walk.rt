@@ -5,7 +5,7 @@ use crate::{
 use sample_dylibs::data_dylib;
 use std::test::*;
 
-// The offset and the number of each command.
+/// The offset and the number of each command.
 const COMMANDS: [(u64, u32); 6] = [
     (0x20, 0x19),
     (0xb8, 0x19),
@@ -15,7 +15,7 @@ const COMMANDS: [(u64, u32); 6] = [
     (0x1f0, 0x1e),
 ];
 
-// A number of 8 bytes at an address of the segment `__DATA`.
+/// A number of 8 bytes at an address of the segment `__DATA`.
 const NUMBERS: [(u64, u64); 5] = [
     (0x1010, 0x1020),
     (0x100c, 0x1020_0000_0000),

@@ -1,15 +1,15 @@
 // Tables, and what is wanted of each. A dylib with one section has them.
 
-// n_strx, n_type, n_sect, n_desc and n_value of an entry.
+/// n_strx, n_type, n_sect, n_desc and n_value of an entry.
 pub(crate) type Nlist = (u32, u8, u8, u16, u64);
 
-// The name of a symbol, its alias, n_type, n_sect, n_desc, its value, and the value where it has moved.
+/// The name of a symbol, its alias, n_type, n_sect, n_desc, its value, and the value where it has moved.
 pub(crate) type Found = (&'static [u8], Option<&'static [u8]>, u8, u8, u16, u64, u64);
 
-// Symbols, indirect entries and groups.
+/// Symbols, indirect entries and groups.
 pub(crate) type Tabled = (&'static [Found], &'static [u32], [u32; 6]);
 
-// What is wanted of tables: what is read of them, or the rule that is broken and where.
+/// What is wanted of tables: what is read of them, or the rule that is broken and where.
 pub(crate) type Wanted = Result<Tabled, (u16, u64)>;
 
 #[derive(Clone, Copy)]
@@ -35,7 +35,7 @@ const FOUND_B: Found = (b"_b", None, 0x0f, 1, 0, 0x900, 0x7fff20001900);
 
 const NONE: [u32; 6] = [0; 6];
 
-// The longest name, and one byte more.
+/// The longest name, and one byte more.
 const LONG: [u8; 16383] = [b'x'; 16383];
 
 const TOO_LONG: [u8; 16384] = [b'x'; 16384];

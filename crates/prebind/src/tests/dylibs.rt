@@ -5,14 +5,14 @@ use dsc_base::put_u64;
 use std::alloc::Global;
 use std::test::Fail;
 
-// The commands of a dependency.
+/// The commands of a dependency.
 pub(super) const LOAD: u32 = 0xC;
 
 pub(super) const WEAK: u32 = 0x8000_0018;
 
 pub(super) const REEXPORT: u32 = 0x8000_001F;
 
-// Install names, each with its NUL.
+/// Install names, each with its NUL.
 pub(super) type Path = [u8; 8];
 
 pub(super) const A: Path = *b"/a\0\0\0\0\0\0";
@@ -27,7 +27,7 @@ pub(super) const X: Path = *b"/x\0\0\0\0\0\0";
 
 pub(super) const ABSENT: Path = *b"/absent\0";
 
-// A dylib by its dependencies, its streams, and the numbers in its data by their places in the file.
+/// A dylib by its dependencies, its streams, and the numbers in its data by their places in the file.
 #[derive(Clone, Copy)]
 pub(super) struct Dylib {
     pub name: Path,
@@ -41,7 +41,7 @@ pub(super) struct Dylib {
     pub split: &'static [u8],
 }
 
-// One without dependencies, words and symbols.
+/// One without dependencies, words and symbols.
 pub(super) const PLAIN: Dylib = Dylib {
     name: A,
     needs: &[],
@@ -54,7 +54,7 @@ pub(super) const PLAIN: Dylib = Dylib {
     split: b"\x7f\x00",
 };
 
-// Where the file's linkedit begins, and the bytes that each stream has there.
+/// Where the file's linkedit begins, and the bytes that each stream has there.
 const LINKEDIT: usize = 0x2000;
 
 const ROOM: usize = 0x40;
@@ -66,7 +66,7 @@ fn put_numbers(file: &mut Vec<u8>, numbers: &[u32]) -> Result<(), Fail> {
     Ok(())
 }
 
-// A segment command: its size, start, bytes, place in the file and bytes there, protection and sections.
+/// A segment command: its size, start, bytes, place in the file and bytes there, protection and sections.
 fn put_segment(file: &mut Vec<u8>, name: &[u8; 16], row: [u32; 7]) -> Result<(), Fail> {
     let [command, start, size, at, filesize, prot, sections] = row;
     put_numbers(file, &[0x19, command])?;
@@ -75,7 +75,7 @@ fn put_segment(file: &mut Vec<u8>, name: &[u8; 16], row: [u32; 7]) -> Result<(),
     put_numbers(file, &[prot, prot, sections, 0])
 }
 
-// A section: its address, bytes, place in the file and type.
+/// A section: its address, bytes, place in the file and type.
 fn put_section(file: &mut Vec<u8>, segment: &[u8; 16], row: [u32; 4]) -> Result<(), Fail> {
     let [address, size, at, kind] = row;
     file.extend_from_slice(b"__section\0\0\0\0\0\0\0")?;
@@ -95,7 +95,7 @@ fn put_segments(file: &mut Vec<u8>) -> Result<(), Fail> {
     put_segment(file, linkedit, [72, 0x3000, 0x1000, 0x2000, 0x180, 1, 0])
 }
 
-// A command with a name, of 32 bytes.
+/// A command with a name, of 32 bytes.
 fn put_name(file: &mut Vec<u8>, command: u32, name: &Path) -> Result<(), Fail> {
     put_numbers(file, &[command, 32, 24, 0, 0, 0])?;
     file.extend_from_slice(name)?;
@@ -107,7 +107,7 @@ fn size_of(stream: &[u8]) -> Result<u32, Fail> {
     Ok(size)
 }
 
-// LC_DYLD_INFO_ONLY and LC_SEGMENT_SPLIT_INFO.
+/// LC_DYLD_INFO_ONLY and LC_SEGMENT_SPLIT_INFO.
 fn put_streams(file: &mut Vec<u8>, dylib: &Dylib) -> Result<(), Fail> {
     put_numbers(file, &[0x8000_0022, 48])?;
     put_numbers(file, &[0x2000, size_of(dylib.rebase)?])?;
@@ -118,7 +118,7 @@ fn put_streams(file: &mut Vec<u8>, dylib: &Dylib) -> Result<(), Fail> {
     put_numbers(file, &[0x1E, 16, 0x2140, size_of(dylib.split)?])
 }
 
-// The header and all commands.
+/// The header and all commands.
 fn put_commands(file: &mut Vec<u8>, dylib: &Dylib) -> Result<(), Fail> {
     let count = u32::try_from(dylib.needs.len())
         .ok()
@@ -138,7 +138,7 @@ fn put_commands(file: &mut Vec<u8>, dylib: &Dylib) -> Result<(), Fail> {
     Ok(())
 }
 
-// The streams, one after another.
+/// The streams, one after another.
 fn put_linkedit(file: &mut Vec<u8>, dylib: &Dylib) -> Result<(), Fail> {
     let mut end = LINKEDIT;
     for stream in [

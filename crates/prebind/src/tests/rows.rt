@@ -1,25 +1,25 @@
 // Rows of sets by hand: where the words of their first image lead, or the rule that it breaks and where.
 use super::dylibs::{A, ABSENT, B, C, D, Dylib, LOAD, PLAIN, REEXPORT, WEAK, X};
 
-// A word by its address, and where it leads: a distance from the start of a segment of an image, or a number.
+/// A word by its address, and where it leads: a distance from the start of a segment of an image, or a number.
 pub(super) type Led = (u64, Option<(u32, u32)>, u64);
 
-// What is wanted of the first image: its words, or the rule that it breaks and the place.
+/// What is wanted of the first image: its words, or the rule that it breaks and the place.
 pub(super) type Wanted = Result<&'static [Led], (u16, u64)>;
 
 pub(super) type Row = (&'static str, &'static [Dylib], Wanted);
 
-// Two rebases, at 0x1008 and 0x1010, and the second one alone.
+/// Two rebases, at 0x1008 and 0x1010, and the second one alone.
 const TWO: &[u8] = b"\x11\x21\x08\x52\x00";
 
 const ONE: &[u8] = b"\x11\x21\x10\x51\x00";
 
-// A pointer at 0x1010 that is recorded as one into the text segment, or into the data segment.
+/// A pointer at 0x1010 that is recorded as one into the text segment, or into the data segment.
 const INTO_TEXT: &[u8] = b"\x7f\x01\x02\x01\x01\x80\x18\x01\x02\x01\x10";
 
 const INTO_DATA: &[u8] = b"\x7f\x01\x02\x02\x01\x00\x01\x02\x01\x10";
 
-// Tries: a name at an offset, at a number, or from the first dependency.
+/// Tries: a name at an offset, at a number, or from the first dependency.
 const F_AT_500: &[u8] = b"\x00\x01_f\x00\x06\x03\x00\x80\x0a\x00";
 
 const K_IS_1234: &[u8] = b"\x00\x01_k\x00\x06\x04\x02\xb4\x24\x00\x00";
@@ -34,14 +34,14 @@ const N_FROM_2: &[u8] = b"\x00\x01_n\x00\x06\x03\x08\x02\x00\x00";
 
 const N_IS_F_FROM_1: &[u8] = b"\x00\x01_n\x00\x06\x05\x08\x01_f\x00\x00";
 
-// Two names, the second one at 0x2fff, in `__LINKEDIT`, and at its end.
+/// Two names, the second one at 0x2fff, in `__LINKEDIT`, and at its end.
 const LAST_OF_DATA: &[u8] = b"\x00\x02a\x00\x08b\x00\x0c\x02\x00\x10\x00\x03\x00\xff\x5f\x00";
 
 const IN_LINKEDIT: &[u8] = b"\x00\x02a\x00\x08b\x00\x0c\x02\x00\x10\x00\x03\x00\x80\x60\x00";
 
 const AT_THE_END: &[u8] = b"\x00\x02a\x00\x08b\x00\x0c\x02\x00\x10\x00\x04\x00\x80\x80\x01\x00";
 
-// A word at 0x1018 bound to `_n` of the first dependency.
+/// A word at 0x1018 bound to `_n` of the first dependency.
 const N_BY_1: &[u8] = b"\x11\x40_n\x00\x51\x71\x18\x90\x00";
 
 const ON_B: Dylib = Dylib {

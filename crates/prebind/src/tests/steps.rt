@@ -58,7 +58,7 @@ fn found_in_order<'s, L: Ledger>(
     first_named(&indexed.names, links.search_order(1), name, steps)
 }
 
-// A name that the fifth image exports takes three steps.
+/// A name that the fifth image exports takes three steps.
 fn resolve_third<L: Ledger>(
     alloc: Global,
     links: &Links,
@@ -77,7 +77,7 @@ fn resolve_third<L: Ledger>(
     resolve_indexed(alloc, links, indexed, 0, 1, name, steps)
 }
 
-// A name that none of the four exports takes four.
+/// A name that none of the four exports takes four.
 fn resolve_absent<L: Ledger>(
     alloc: Global,
     links: &Links,
@@ -94,7 +94,7 @@ fn resolve_absent<L: Ledger>(
     resolve_indexed(alloc, links, indexed, 0, 1, name, steps)
 }
 
-// And the words of an image that binds the former alone take three.
+/// And the words of an image that binds the former alone take three.
 fn place_third<L: Ledger>(
     alloc: Global,
     links: &Links,
@@ -120,7 +120,7 @@ fn place_third<L: Ledger>(
     )
 }
 
-// Whether a name that no image exports is absent.
+/// Whether a name that no image exports is absent.
 fn lacks<L: Ledger>(
     alloc: Global,
     links: &Links,
@@ -141,7 +141,7 @@ fn lacks<L: Ledger>(
     }
 }
 
-// The words of the first image, whose only bind is of a name that the fifth image exports.
+/// The words of the first image, whose only bind is of a name that the fifth image exports.
 fn third_words<L: Ledger>(
     alloc: Global,
     set: &Set<'_, '_>,
@@ -177,7 +177,7 @@ fn third_words<L: Ledger>(
     }
 }
 
-// The words of the first image, whose only bind is of `_n`; and want of memory where the set isn't that one.
+/// The words of the first image, whose only bind is of `_n`; and want of memory where the set isn't that one.
 pub(super) fn counted_words<L: Ledger>(
     alloc: Global,
     set: &Set<'_, '_>,

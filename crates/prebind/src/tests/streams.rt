@@ -4,13 +4,13 @@ use crate::ImageStreams;
 use export_trie::Export;
 use std::process::Abort;
 
-// A bind by its address, ordinal, name, weak import and addend.
+/// A bind by its address, ordinal, name, weak import and addend.
 type Bound = (u64, u64, &'static [u8], bool, i64);
 
-// A reference by its address, the segment to which it leads and the offset in its section.
+/// A reference by its address, the segment to which it leads and the offset in its section.
 type Referred = (u64, u32, u64);
 
-// The rebases, binds, references and names that are exported.
+/// The rebases, binds, references and names that are exported.
 pub(super) struct Spelled {
     rebases: &'static [u64],
     binds: &'static [Bound],
@@ -20,7 +20,7 @@ pub(super) struct Spelled {
 
 pub(super) type Row = (Dylib, Result<Spelled, (u16, u64)>);
 
-// A dylib whose streams are all broken.
+/// A dylib whose streams are all broken.
 const BROKEN: Dylib = Dylib {
     rebase: b"\x11\xf0",
     bind: b"\x51\xd0",

@@ -3,7 +3,7 @@ use sample_dylibs::{data_dylib, put_numbers};
 use std::alloc::Global;
 use std::test::Fail;
 
-// What differs: numbers of four bytes, and bytes, each with their places.
+/// What differs: numbers of four bytes, and bytes, each with their places.
 #[derive(Clone, Copy)]
 pub(super) struct Dylib {
     pub numbers: &'static [(usize, u32)],

@@ -16,11 +16,11 @@ use std::alloc::Global;
 use std::process::Abort;
 use std::test::*;
 
-// A number by its offset in the file and its width.
+/// A number by its offset in the file and its width.
 type Number = (u64, u8, u64);
 
-// What is wanted of the first image: its edits and its chained words; or the rule that a set breaks, the
-// image and the place.
+/// What is wanted of the first image: its edits and its chained words; or the rule that a set breaks, the
+/// image and the place.
 type Wanted = Result<(&'static [Number], &'static [u64]), (u16, u32, u64)>;
 
 type Row = (&'static str, &'static [Dylib], Wanted);
@@ -30,7 +30,7 @@ const A: Dylib = Dylib {
     bytes: &[],
 };
 
-// The same with the name `/b.dylib`.
+/// The same with the name `/b.dylib`.
 const B: Dylib = Dylib {
     numbers: &[(0x1b0, 0x642e622f)],
     bytes: &[],
@@ -159,7 +159,7 @@ fn files_of(alloc: Global, dylibs: &[Dylib]) -> Result<Vec<Vec<u8>>, Fail> {
     Ok(files)
 }
 
-// The pointers of each image.
+/// The pointers of each image.
 fn all_placed(alloc: Global, set: &Set<'_, '_>) -> Result<Vec<Vec<PlacedWord>>, Fail>
     requires { IsSoundSet (set_of set.now) }
     ensures { IfOk result (λ v. AreListsPlaced (set_of set.now) (map (λ w. w.items) v.items)) }
@@ -174,7 +174,7 @@ fn all_placed(alloc: Global, set: &Set<'_, '_>) -> Result<Vec<Vec<PlacedWord>>, 
     Ok(placed)
 }
 
-// The plans of a set whose images have short names.
+/// The plans of a set whose images have short names.
 fn planned<'a>(
     alloc: Global,
     set: &Set<'_, 'a>,
