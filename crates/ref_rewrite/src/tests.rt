@@ -25,6 +25,30 @@ impl Gate for CountingGate {
     }
 }
 
+/// How often the first image looks whether a second one has begun: far more than a thread takes to start.
+const TURNS: u32 = 200_000_000;
+
+/// Its first call waits until there is a second one, and notes whether there was.
+#[derive(Drop)]
+struct WaitingGate {
+    entered: AtomicU64,
+    met: AtomicU64,
+}
+
+impl Gate for WaitingGate {
+    fn enter(&self, _image: u32) {
+        if self.entered.fetch_add(1, Ordering::SeqCst) != 0 {
+            return;
+        }
+        for _ in 0..TURNS {
+            if self.entered.load(Ordering::SeqCst) > 1 {
+                self.met.store(1, Ordering::SeqCst);
+                return;
+            }
+        }
+    }
+}
+
 /// Pieces in each span, a header over a part of the first, and edits over both.
 fn first(alloc: Global) -> Result<ImagePlan<'static>, NoMemory>
     ensures sound { IfOk result IsSoundPlan }
@@ -198,5 +222,21 @@ fn any_number_of_jobs_gives_the_same_bytes(rt: HostRuntime) -> Result<(), Fail> 
             "{jobs} jobs"
         );
     }
+    Ok(())
+}
+
+#[test]
+fn two_images_are_rewritten_at_the_same_time(rt: HostRuntime) -> Result<(), Fail> {
+    let plans = three(rt.alloc())?;
+    let gate = WaitingGate {
+        entered: AtomicU64::new(0),
+        met: AtomicU64::new(0),
+    };
+    let mut text = [0u8; 24];
+    let mut writable = [0u8; 16];
+    let mut fixed = [0u8; 20];
+    rewrite_all(&rt, &mut text, &mut writable, &mut fixed, &plans, 2, &gate);
+    assert_eq!(rt; gate.met.load(Ordering::SeqCst), 1);
+    assert_eq!(rt; gate.entered.load(Ordering::SeqCst), 3);
     Ok(())
 }
