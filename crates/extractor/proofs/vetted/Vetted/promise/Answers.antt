@@ -1,5 +1,6 @@
 -- What is true of every vetted cache.
 use Rattle.std.proofs.Common.{◌∙◌, subst, sym, ap}
+use Rattle.cache_check.proofs.AgreeLaws.{plain_bytes}
 use Rattle.extractor.specs.Extracted.{AreExtracted}
 use Rattle.extractor.specs.Vets.{Parts, parts_of}
 use Rattle.extractor.specs.Vetting.{vet_finding}
@@ -13,4 +14,4 @@ returns-clause-files c = subst (λ (p : Parts). AreExtracted p.view) c.self.view
 pub returns-clause-loads : goal.returns-clause-loads
 returns-clause-loads c = λ cache bytes read view.
     let vetted = ap vet_finding view ∙ (sym (ap (λ (p : Parts). vet_finding p.view) c.self.view_is) ∙ c.self.invariant.none) in
-    extraction cache (record { bytes = bytes; read = read; vetted = vetted })
+    extraction cache (record { bytes = plain_bytes cache bytes; read = read; vetted = vetted })
